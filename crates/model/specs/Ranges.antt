@@ -7,7 +7,7 @@
 use Prim.Native.Nat.{ℕ, _+_, _≤_, _<_}
 use mathlib.Core.Bool.{Bool, true, false, cond}
 use mathlib.Core.List.{List, [], _∷_}
-use Rattle.std.specs.shelf.Lists.{All}
+use lib.ListN.{length, getD}
 use Rattle.model.specs.declared.kind.Kind.{Kind}
 use Rattle.model.specs.declared.kind.Kind.the-variants.{Ordinary, Regular}
 use Rattle.model.specs.declared.line.Line.{Line}
@@ -23,12 +23,12 @@ isRegular l = regularKind (l .kind)
 abbrev pub Ranged : Line → Type 0
 Ranged l = (l .offset ≤ 60000) × (0 < l .length) × (l .length ≤ l .deadline) × (l .deadline ≤ l .period) × (l .period ≤ 60000)
 
+abbrev pub blank : Line
+blank = record { kind = Ordinary; offset = 0; length = 0; deadline = 0; period = 0 }
+
 abbrev pub AllRanged : List Line → Type 0
-AllRanged ls = All Ranged ls
+AllRanged ls = (i : ℕ) → i < length ls → Ranged (getD ls i blank)
 
 abbrev pub regulars : List Line → ℕ
 regulars [] = 0
 regulars (l ∷ ls) = cond (isRegular l) 1 0 + regulars ls
-
-abbrev pub blank : Line
-blank = record { kind = Ordinary; offset = 0; length = 0; deadline = 0; period = 0 }
