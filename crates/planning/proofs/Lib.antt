@@ -1,0 +1,12 @@
+pub mod LeastDeadline
+pub mod Multiples
+pub mod Options
+pub mod ShortPairs
+pub mod Candidates
+pub mod Unplaced
+pub mod Steps
+pub mod Search
+pub mod Placings
+pub mod Refusals
+pub mod Kept
+pub mod Planned

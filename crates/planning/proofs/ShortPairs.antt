@@ -1,0 +1,121 @@
+-- A pair that is found is one that no offsets keep apart.
+use Prim.Native.Nat.{ℕ, zero, suc, _+_, _-_, _<_, _≤_}
+use mathlib.Core.Path.{_≡_, refl, sym, ap, subst, _∙_}
+use mathlib.Core.Bool.{Bool, true, false, cond, not, _&&_}
+use mathlib.Core.List.{List, [], _∷_}
+use mathlib.Core.Logic.{_⊎_, inl, inr, ⊎-elim}
+use native.Mathlib.Omega.{arith}
+use lib.ListN.{length, getD, drop}
+use Rattle.std.proofs.shelf.Lists.{at-drop-more}
+use Rattle.std.proofs.shelf.Tests.{and-parts, not-true}
+use Rattle.std.specs.declared.option.Option.the-variants.{Some, None}
+use Rattle.model.specs.Ranges.{isRegular, blank}
+use Rattle.model.specs.declared.line.Line.{Line}
+use Rattle.windows.specs.Windows.{apartLines, roomyLines, at}
+use Rattle.windows.proofs.Room.{too-long}
+use Rattle.planning.proofs.Options.{some-none, cond-some, guard-some, else-some}
+use Rattle.planning.specs.Offsets.{orElse, shortWith, shortPair, NeverApart}
+
+-- place k of bs, where lines are counted from j, holds a line that is too long beside a
+record Beside (a : Line) (i j : ℕ) (bs : List Line) (pair : ℕ × ℕ) : Type 0 where
+  k : ℕ
+  inside : k < length bs
+  first : pair .0 ≡ i
+  second : pair .1 ≡ j + k
+  regular : isRegular (getD bs k blank) ≡ true
+  long : roomyLines a (getD bs k blank) ≡ false
+
+beside : (a : Line) (i j : ℕ) (bs : List Line) (pair : ℕ × ℕ) → shortWith a i j bs ≡ Some pair → Beside a i j bs pair
+beside a i j [] pair e = absurd (some-none pair (sym e))
+beside a i j (b ∷ bs) pair e =
+    ⊎-elim
+    (λ (h : ((isRegular b && not (roomyLines a b)) ≡ true) × ((i, j) ≡ pair)).
+    let both = and-parts (isRegular b) (not (roomyLines a b)) (h .0) in
+    let second : j ≡ pair .1 = ap (λ p. p .1) (h .1) in
+    record {
+      k = 0;
+      inside = omega arith;
+      first = sym (ap (λ p. p .0) (h .1));
+      second = omega arith;
+      regular = both .0;
+      long = not-true (roomyLines a b) (both .1);
+    })
+    (λ (h : ((isRegular b && not (roomyLines a b)) ≡ false) × (shortWith a i (j + 1) bs ≡ Some pair)).
+    let w = beside a i (j + 1) bs pair (h .1) in
+    record {
+      k = suc (w .k);
+      inside = omega (arith, w .inside);
+      first = w .first;
+      second = omega (arith, w .second);
+      regular = w .regular;
+      long = w .long;
+    })
+    (cond-some (isRegular b && not (roomyLines a b)) (i, j) pair (shortWith a i (j + 1) bs) e)
+
+-- places m and k of ls, where lines are counted from i, hold two lines that are too long for each other
+record Short (i : ℕ) (ls : List Line) (pair : ℕ × ℕ) : Type 0 where
+  m : ℕ
+  k : ℕ
+  order : m < k
+  inside : k < length ls
+  first : pair .0 ≡ i + m
+  second : pair .1 ≡ i + k
+  low : isRegular (getD ls m blank) ≡ true
+  high : isRegular (getD ls k blank) ≡ true
+  long : roomyLines (getD ls m blank) (getD ls k blank) ≡ false
+
+short : (i : ℕ) (ls : List Line) (pair : ℕ × ℕ) → shortPair i ls ≡ Some pair → Short i ls pair
+short i [] pair e = absurd (some-none pair (sym e))
+short i (a ∷ bs) pair e =
+    ⊎-elim
+    (λ (h : cond (isRegular a) (shortWith a i (i + 1) bs) None ≡ Some pair).
+    let g = guard-some (isRegular a) (shortWith a i (i + 1) bs) pair h in
+    let w = beside a i (i + 1) bs pair (g .1) in
+    record {
+      m = 0;
+      k = suc (w .k);
+      order = omega arith;
+      inside = omega (arith, w .inside);
+      first = omega (arith, w .first);
+      second = omega (arith, w .second);
+      low = g .0;
+      high = w .regular;
+      long = w .long;
+    })
+    (λ (h : (cond (isRegular a) (shortWith a i (i + 1) bs) None ≡ None) × (shortPair (i + 1) bs ≡ Some pair)).
+    let w = short (i + 1) bs pair (h .1) in
+    record {
+      m = suc (w .m);
+      k = suc (w .k);
+      order = omega (arith, w .order);
+      inside = omega (arith, w .inside);
+      first = omega (arith, w .first);
+      second = omega (arith, w .second);
+      low = w .low;
+      high = w .high;
+      long = w .long;
+    })
+    (else-some (cond (isRegular a) (shortWith a i (i + 1) bs) None) (shortPair (i + 1) bs) pair e)
+
+pub never-apart : (ls : List Line) (pair : ℕ × ℕ) → shortPair 1 ls ≡ Some pair → NeverApart ls pair
+never-apart ls pair e =
+    let w = short 1 ls pair e in
+    let first : w .m ≡ pair .0 - 1 = omega (arith, w .first) in
+    let second : w .k ≡ pair .1 - 1 = omega (arith, w .second) in
+    record {
+      order = (omega (arith, w .first), omega (arith, w .first, w .second, w .order), omega (arith, w .second, w .inside));
+      regular = (subst (λ n. isRegular (getD ls n blank) ≡ true) first (w .low), subst (λ n. isRegular (getD ls n blank) ≡ true) second (w .high));
+      never =
+          subst (λ n. (x y : ℕ) → apartLines (at (getD ls n blank) x) (at (getD ls (pair .1 - 1) blank) y) ≡ false) first
+          (subst (λ n. (x y : ℕ) → apartLines (at (getD ls (w .m) blank) x) (at (getD ls n blank) y) ≡ false) second (too-long (getD ls (w .m) blank) (getD ls (w .k) blank) (w .long)));
+    }
+
+-- one more line, of the lower lines and of the higher
+pub lower-more : (ls : List Line) (i : ℕ) → i < length ls → (b : Bool) → isRegular (getD ls i blank) ≡ b → orElse (cond b (shortWith (getD ls i blank) (i + 1) (i + 1 + 1) (drop (i + 1) ls)) None) (shortPair (i + 1 + 1) (drop (i + 1) ls)) ≡ shortPair (i + 1) (drop i ls)
+lower-more ls i inside b e =
+    ap (λ t. orElse (cond t (shortWith (getD ls i blank) (i + 1) (i + 1 + 1) (drop (i + 1) ls)) None) (shortPair (i + 1 + 1) (drop (i + 1) ls))) (sym e)
+    ∙ sym (at-drop-more (shortPair (i + 1)) ls i blank inside)
+
+pub higher-more : (a : Line) (ls : List Line) (i j : ℕ) → j < length ls → (b : Bool) → (isRegular (getD ls j blank) && not (roomyLines a (getD ls j blank))) ≡ b → cond b (Some (i, j + 1)) (shortWith a i (j + 1 + 1) (drop (j + 1) ls)) ≡ shortWith a i (j + 1) (drop j ls)
+higher-more a ls i j inside b e =
+    ap (λ t. cond t (Some (i, j + 1)) (shortWith a i (j + 1 + 1) (drop (j + 1) ls))) (sym e) ∙ sym (at-drop-more (shortWith a i (j + 1)) ls j blank inside)

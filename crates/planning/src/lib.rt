@@ -1,0 +1,7 @@
+//! From a sheet to a plan: the hyperperiod, offsets for the regular lines, deadlines.
+
+mod deadlines;
+mod hyperperiod;
+mod offsets;
+pub mod plan_of;
+mod regular;
