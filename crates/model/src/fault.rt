@@ -4,6 +4,8 @@ ghost use mathlib.Core.Path.{_≡_};
 ghost use Rattle.model.specs.Faults.{codeOf};
 ghost use Rattle.model.specs.declared.fault.Fault.the-variants.{NoMemory};
 use std::alloc::AllocError;
+use std::error::Error;
+use std::fmt;
 
 #[derive(Clone, Copy, Debug)]
 pub enum Fault {
@@ -85,3 +87,18 @@ pub impl From<AllocError> for Fault as FaultFromAllocError {
         Fault::NoMemory
     }
 }
+
+// As the programs print it: the number, the layer and the two places.
+pub impl fmt::Display for Fault as FaultDisplay {
+    fn fmt<W: fmt::Write>(&self, f: &mut fmt::Formatter<W>) -> fmt::Result {
+        let FaultCode {
+            number,
+            layer,
+            first,
+            second,
+        } = self.code();
+        write!(f, "fault {number} {layer} {first} {second}")
+    }
+}
+
+pub impl Error for Fault as FaultError {}

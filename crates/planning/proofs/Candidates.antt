@@ -1,7 +1,7 @@
 -- The first of several candidates that leads to something.
 use Prim.Native.Nat.{ℕ, zero, suc, _+_, _-_, _<_, _≤_}
 use mathlib.Core.Path.{_≡_, refl, sym, ap, subst, _∙_}
-use mathlib.Core.Logic.{_⊎_, inl, inr, ⊎-elim}
+use mathlib.Core.Logic.{_⊎_, ⊎-elim}
 use native.Mathlib.Omega.{arith}
 use Rattle.std.proofs.shelf.Tests.{cases-order}
 use Rattle.std.specs.declared.option.Option.{Option}
@@ -40,10 +40,10 @@ try-some (suc n) o f x e =
       to = omega (arith, w .to);
       here = w .here;
       before = λ j l m.
-      ⊎-elim
-      (λ (s : o ≡ j). subst (λ z. f z ≡ None) s (h .0))
-      (λ ne. w .before j (⊎-elim (λ (q : o < j). omega arith) (λ (q : j < o). absurd (omega arith)) ne) m)
-      (cases-order o j);
+          ⊎-elim
+          (λ (s : o ≡ j). subst (λ z. f z ≡ None) s (h .0))
+          (λ ne. w .before j (⊎-elim (λ (q : o < j). omega arith) (λ (q : j < o). absurd (omega arith)) ne) m)
+          (cases-order o j);
     })
     (else-some (f o) (tryFrom n (suc o) f) x e)
 

@@ -1,15 +1,14 @@
 -- The lines that planning makes keep what every plan keeps.
-use Prim.Native.Nat.{ℕ, zero, suc, _+_, _-_, _<_, _≤_, min}
+use Prim.Native.Nat.{ℕ, _+_, _-_, _<_, _≤_}
 use mathlib.Core.Path.{_≡_, refl, sym, ap, subst, _∙_}
-use mathlib.Core.Bool.{Bool, true, false, cond}
+use mathlib.Core.Bool.{true, false, cond}
 use mathlib.Core.List.{List, [], _∷_, map}
 use mathlib.Core.Logic.{⊎-elim}
 use native.Mathlib.Omega.{arith}
-use lib.Dec.{ltb}
 use lib.ListN.{length, getD}
 use Rattle.std.proofs.shelf.Elements.{all-getD}
 use Rattle.std.proofs.shelf.Lists.{getD-map, length-map}
-use Rattle.std.proofs.shelf.Tests.{cases-bool, cond-both, ltb-false}
+use Rattle.std.proofs.shelf.Tests.{cases-bool, cond-both}
 use Rattle.std.specs.shelf.Lists.{All}
 use Rattle.std.specs.declared.option.Option.{Option}
 use Rattle.std.specs.declared.option.Option.the-variants.{Some, None}
@@ -17,11 +16,11 @@ use Rattle.model.specs.Ranges.{isRegular, blank, Ranged, regulars}
 use Rattle.model.specs.declared.line.Line.{Line}
 use Rattle.model.specs.declared.policy.Policy.{Policy}
 use Rattle.model.specs.declared.policy.Policy.the-variants.{Dm, Ed}
-use Rattle.windows.specs.Windows.{Periodic, apartLines, at, Pair, AllApart}
+use Rattle.windows.specs.Windows.{Periodic, apartLines, at, AllApart}
 use Rattle.windows.specs.Euclid.{lcmOf}
 use Rattle.windows.proofs.Rule.{apart-means}
-use Rattle.planning.proofs.Options.{cond-none}
 use Rattle.planning.proofs.Placings.{tail, placed-periodic}
+use Rattle.planning.proofs.Tight.{loose-at}
 use Rattle.planning.specs.Deadlines.{regularDeadline, changed, tightAt}
 use Rattle.planning.specs.Hyperperiods.{hyperFrom}
 use Rattle.planning.specs.Offsets.{Placing}
@@ -43,11 +42,6 @@ module _ (policy : Policy) (m : Option ℕ) where
   regulars-kept (l ∷ ls) (x ∷ xs) p =
       let same : isRegular x ≡ isRegular l = ap isRegular (p .same 0 (omega arith)) in
       ap (λ b. cond b 1 0 + regulars (map (changed policy m) xs)) same ∙ ap (λ n. cond (isRegular l) 1 0 + n) (regulars-kept ls xs (tail l x ls xs p))
-
-pub loose-at : (n : ℕ) (ls : List Line) → tightAt n ls ≡ None → (i : ℕ) → i < length ls → getD ls i blank .length ≤ getD ls i blank .deadline
-loose-at n [] e i h = absurd (omega arith)
-loose-at n (l ∷ ls) e zero h = ltb-false (l .deadline) (l .length) (cond-none (ltb (l .deadline) (l .length)) n (tightAt (n + 1) ls) e .0)
-loose-at n (l ∷ ls) e (suc i) h = loose-at (n + 1) ls (cond-none (ltb (l .deadline) (l .length)) n (tightAt (n + 1) ls) e .1) i (omega arith)
 
 within-period : (policy : Policy) (m : Option ℕ) (l : Line) → l .length ≤ l .period → l .deadline ≤ l .period → regularDeadline policy m l ≤ l .period
 within-period Ed m l c d = c

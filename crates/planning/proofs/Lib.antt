@@ -1,11 +1,13 @@
-pub mod LeastDeadline
-pub mod Multiples
 pub mod Options
+pub mod LeastDeadline
+pub mod Tight
+pub mod Multiples
 pub mod ShortPairs
 pub mod Candidates
 pub mod Unplaced
 pub mod Steps
 pub mod Search
+pub mod Clear
 pub mod Placings
 pub mod Refusals
 pub mod Kept

@@ -1,6 +1,6 @@
 -- What is known of the parts of a choice from what it comes to.
 use Prim.Native.Nat.{ℕ}
-use mathlib.Core.Path.{_≡_, refl, ap}
+use mathlib.Core.Path.{_≡_, refl}
 use mathlib.Core.Bool.{Bool, true, false, cond}
 use mathlib.Core.Logic.{_⊎_, inl, inr}
 use native.Mathlib.Omega.{arith}
@@ -22,6 +22,14 @@ module _ {X : Type 0} where
   pub cond-some : (b : Bool) (x y : X) (o : Option X) → cond b (Some x) o ≡ Some y → ((b ≡ true) × (x ≡ y)) ⊎ ((b ≡ false) × (o ≡ Some y))
   cond-some true x y o e = inl (refl, same-some x y e)
   cond-some false x y o e = inr (refl, e)
+
+  pub unless-some : (b : Bool) (x y : X) → Some y ≡ cond b None (Some x) → (b ≡ false) × (y ≡ x)
+  unless-some true x y e = let z : _≡_ {A = ℕ} 0 1 = cc in absurd (omega arith)
+  unless-some false x y e = (refl, same-some y x e)
+
+  pub unless-none : (b : Bool) (x : X) → None ≡ cond b None (Some x) → b ≡ true
+  unless-none true x e = refl
+  unless-none false x e = let z : _≡_ {A = ℕ} 0 1 = cc in absurd (omega arith)
 
   pub guard-some : (b : Bool) (o : Option X) (x : X) → cond b o None ≡ Some x → (b ≡ true) × (o ≡ Some x)
   guard-some true o x e = (refl, e)

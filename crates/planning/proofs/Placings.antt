@@ -1,44 +1,24 @@
 -- The search and the placings: what it finds is the first placing, and where it finds nothing there
 -- is none.
-use Prim.Native.Nat.{ℕ, zero, suc, _+_, _-_, _<_, _≤_}
+use Prim.Native.Nat.{ℕ, zero, suc, _+_, _-_, _<_}
 use mathlib.Core.Path.{_≡_, refl, sym, ap, subst, _∙_}
-use mathlib.Core.Bool.{Bool, true, false, cond, not, _&&_, _||_}
+use mathlib.Core.Bool.{true, false}
 use mathlib.Core.List.{List, [], _∷_, _++_}
 use mathlib.Core.Logic.{_⊎_, inl, inr, ⊎-elim}
 use native.Mathlib.Omega.{arith}
 use lib.ListN.{length, getD, take}
 use Rattle.std.proofs.shelf.Elements.{all-getD}
-use Rattle.std.proofs.shelf.Tests.{cases-bool, both-ways, and-parts, and-from}
+use Rattle.std.proofs.shelf.Tests.{cases-bool, both-ways}
 use Rattle.std.specs.shelf.Lists.{All}
 use Rattle.std.specs.declared.option.Option.the-variants.{Some, None}
 use Rattle.model.specs.Ranges.{isRegular, blank, Ranged}
 use Rattle.model.specs.declared.line.Line.{Line}
 use Rattle.windows.specs.Windows.{Meet, Periodic, apartLines, at}
 use Rattle.windows.proofs.Rule.{apart-means}
+use Rattle.planning.proofs.Clear.{clear-push, clear-pushed}
 use Rattle.planning.proofs.Search.{Fits, Good, Before, found, nothing}
 use Rattle.planning.proofs.ShortPairs.{never-apart}
 use Rattle.planning.specs.Offsets.{clearOf, place, shortPair, Placing, NotAfter, Least}
-
--- a test against one more line
-test-true : (b t c : Bool) → ((not b || t) && c) ≡ true → b ≡ true → t ≡ true
-test-true b t c e h = and-parts t c (subst (λ x. ((not x || t) && c) ≡ true) h e) .0
-
-test-from : (b t : Bool) → (b ≡ true → t ≡ true) → (not b || t) ≡ true
-test-from true t f = f refl
-test-from false t f = refl
-
-pub clear-push : (placed : List Line) (m x : Line) → clearOf placed x ≡ true → (isRegular m ≡ true → apartLines m x ≡ true) → clearOf (placed ++ m ∷ []) x ≡ true
-clear-push [] m x c f = and-from (not (isRegular m) || apartLines m x) true (test-from (isRegular m) (apartLines m x) f) refl
-clear-push (a ∷ placed) m x c f =
-    let w = and-parts (not (isRegular a) || apartLines a x) (clearOf placed x) c in
-    and-from (not (isRegular a) || apartLines a x) (clearOf (placed ++ m ∷ []) x) (w .0) (clear-push placed m x (w .1) f)
-
-pub clear-pushed : (placed : List Line) (m x : Line) → clearOf (placed ++ m ∷ []) x ≡ true → (clearOf placed x ≡ true) × (isRegular m ≡ true → apartLines m x ≡ true)
-clear-pushed [] m x c = (refl, test-true (isRegular m) (apartLines m x) true c)
-clear-pushed (a ∷ placed) m x c =
-    let w = and-parts (not (isRegular a) || apartLines a x) (clearOf (placed ++ m ∷ []) x) c in
-    let v = clear-pushed placed m x (w .1) in
-    (and-from (not (isRegular a) || apartLines a x) (clearOf placed x) (w .0) (v .0), v .1)
 
 pub periodic : (l : Line) → Ranged l → Periodic l
 periodic l r = (r .1, omega (arith, r .1, r .2, r .3))
@@ -70,8 +50,7 @@ good-from-placing placed [] (m ∷ ms) a h c = let e = h .whole in omega arith
 good-from-placing placed (l ∷ ls) [] a h c = let e = h .whole in omega arith
 good-from-placing placed (l ∷ ls) (m ∷ ms) a h c =
     let head : m ≡ at l (m .offset) = h .same 0 (omega arith) in
-    let w = tail l m ls ms h in
-    (
+    let w = tail l m ls ms h in (
       record { regular = λ reg. (h .below 0 (omega arith) reg, head, c 0 (omega arith) reg); ordinary = λ ord. h .ordinary 0 (omega arith) ord },
       good-from-placing (placed ++ m ∷ []) ls ms (a .1) w (λ j lt reg.
           let x = getD ms j blank in
@@ -81,17 +60,16 @@ good-from-placing placed (l ∷ ls) (m ∷ ms) a h c =
 
 -- m in front of a placing that is clear of it
 in-front : (placed : List Line) (l m : Line) (ls ms : List Line) → Ranged l → All Ranged ls → Fits placed l m → Placing ls ms → Clear (placed ++ m ∷ []) ls ms → Placing (l ∷ ls) (m ∷ ms) × Clear placed (l ∷ ls) (m ∷ ms)
-in-front placed l m ls ms rl a f h c =
-    (
-      record {
-        whole = let e = h .whole in omega arith;
-        same = by-place (λ i. i < length (l ∷ ls) → getD (m ∷ ms) i blank ≡ at (getD (l ∷ ls) i blank) (getD (m ∷ ms) i blank .offset)) (λ _. like) (λ i lt. h .same i (omega arith));
-        ordinary = by-place (λ i. i < length (l ∷ ls) → isRegular (getD (l ∷ ls) i blank) ≡ false → getD (m ∷ ms) i blank ≡ getD (l ∷ ls) i blank) (λ _ ord. f .ordinary ord) (λ i lt. h .ordinary i (omega arith));
-        below = by-place (λ i. i < length (l ∷ ls) → isRegular (getD (l ∷ ls) i blank) ≡ true → getD (m ∷ ms) i blank .offset < getD (l ∷ ls) i blank .period) (λ _ reg. f .regular reg .0) (λ i lt. h .below i (omega arith));
-        clear = apart;
-      },
-      by-place (λ i. i < length (l ∷ ls) → isRegular (getD (l ∷ ls) i blank) ≡ true → clearOf placed (getD (m ∷ ms) i blank) ≡ true) (λ _ reg. f .regular reg .2) (λ i lt reg. clear-pushed placed m (getD ms i blank) (c i (omega arith) reg) .0),
-    )
+in-front placed l m ls ms rl a f h c = (
+  record {
+    whole = let e = h .whole in omega arith;
+    same = by-place (λ i. i < length (l ∷ ls) → getD (m ∷ ms) i blank ≡ at (getD (l ∷ ls) i blank) (getD (m ∷ ms) i blank .offset)) (λ _. like) (λ i lt. h .same i (omega arith));
+    ordinary = by-place (λ i. i < length (l ∷ ls) → isRegular (getD (l ∷ ls) i blank) ≡ false → getD (m ∷ ms) i blank ≡ getD (l ∷ ls) i blank) (λ _ ord. f .ordinary ord) (λ i lt. h .ordinary i (omega arith));
+    below = by-place (λ i. i < length (l ∷ ls) → isRegular (getD (l ∷ ls) i blank) ≡ true → getD (m ∷ ms) i blank .offset < getD (l ∷ ls) i blank .period) (λ _ reg. f .regular reg .0) (λ i lt. h .below i (omega arith));
+    clear = apart;
+  },
+  by-place (λ i. i < length (l ∷ ls) → isRegular (getD (l ∷ ls) i blank) ≡ true → clearOf placed (getD (m ∷ ms) i blank) ≡ true) (λ _ reg. f .regular reg .2) (λ i lt reg. clear-pushed placed m (getD ms i blank) (c i (omega arith) reg) .0),
+)
   where
     like : m ≡ at l (m .offset)
     like = ⊎-elim (λ (reg : isRegular l ≡ true). f .regular reg .1) (λ (ord : isRegular l ≡ false). subst (λ x. x ≡ at l (x .offset)) (sym (f .ordinary ord)) refl) (cases-bool (isRegular l))

@@ -1,9 +1,8 @@
 -- What planning makes of ranged lines is a plan, with the first placing.
 use Prim.Native.Nat.{_<_, _≤_}
-use mathlib.Core.Path.{_≡_, refl, sym, ap, subst, _∙_}
-use mathlib.Core.List.{List, []}
+use mathlib.Core.Path.{_≡_, sym, ap, subst}
+use mathlib.Core.List.{List}
 use native.Mathlib.Omega.{arith}
-use lib.ListN.{length}
 use Rattle.std.proofs.shelf.Elements.{all-from-getD}
 use Rattle.std.specs.shelf.Lists.{All}
 use Rattle.std.specs.declared.result.Result.the-variants.{Ok}
@@ -11,21 +10,13 @@ use Rattle.model.specs.Ranges.{Ranged, AllRanged, blank, regulars}
 use Rattle.model.specs.TaskSets.{taskSet}
 use Rattle.model.specs.declared.line.Line.{Line}
 use Rattle.model.specs.declared.policy.Policy.{Policy}
-use Rattle.windows.specs.Windows.{AllApart}
 use Rattle.planning.proofs.Kept.{hyperperiod-kept, regulars-kept, all-planned, all-apart}
 use Rattle.planning.proofs.Multiples.{none-within}
 use Rattle.planning.proofs.Placings.{found-is-least}
 use Rattle.planning.proofs.Refusals.{passed}
 use Rattle.planning.specs.Deadlines.{leastOrdinary, withDeadlines}
-use Rattle.planning.specs.Hyperperiods.{hyperperiod, limit}
 use Rattle.planning.specs.Offsets.{Least}
-use Rattle.planning.specs.Plans.{AllPlanned, planOf}
-
-pub record IsPlan (xs : List Line) : Type 0 where
-  pub planned : AllPlanned xs
-  pub limited : regulars xs ≤ 8
-  pub apart : AllApart xs
-  pub short : hyperperiod xs ≤ limit
+use Rattle.planning.specs.Plans.{AllPlanned, IsPlan, planOf}
 
 pub all-ranged : (ls : List Line) → AllRanged ls → All Ranged ls
 all-ranged ls a = all-from-getD Ranged ls blank a

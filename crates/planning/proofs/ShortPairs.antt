@@ -1,17 +1,18 @@
 -- A pair that is found is one that no offsets keep apart.
-use Prim.Native.Nat.{ℕ, zero, suc, _+_, _-_, _<_, _≤_}
-use mathlib.Core.Path.{_≡_, refl, sym, ap, subst, _∙_}
+use Prim.Native.Nat.{ℕ, suc, _+_, _-_, _<_}
+use mathlib.Core.Path.{_≡_, sym, ap, subst, _∙_}
 use mathlib.Core.Bool.{Bool, true, false, cond, not, _&&_}
 use mathlib.Core.List.{List, [], _∷_}
-use mathlib.Core.Logic.{_⊎_, inl, inr, ⊎-elim}
+use mathlib.Core.Logic.{_⊎_, ⊎-elim}
 use native.Mathlib.Omega.{arith}
 use lib.ListN.{length, getD, drop}
 use Rattle.std.proofs.shelf.Lists.{at-drop-more}
-use Rattle.std.proofs.shelf.Tests.{and-parts, not-true}
+use Rattle.std.proofs.shelf.Tests.{and-parts, not-true, leb-false}
 use Rattle.std.specs.declared.option.Option.the-variants.{Some, None}
 use Rattle.model.specs.Ranges.{isRegular, blank}
 use Rattle.model.specs.declared.line.Line.{Line}
-use Rattle.windows.specs.Windows.{apartLines, roomyLines, at}
+use Rattle.windows.specs.Windows.{roomyLines, Crowded}
+use Rattle.windows.specs.Euclid.{gcdOf}
 use Rattle.windows.proofs.Room.{too-long}
 use Rattle.planning.proofs.Options.{some-none, cond-some, guard-some, else-some}
 use Rattle.planning.specs.Offsets.{orElse, shortWith, shortPair, NeverApart}
@@ -102,20 +103,19 @@ never-apart ls pair e =
     let w = short 1 ls pair e in
     let first : w .m ≡ pair .0 - 1 = omega (arith, w .first) in
     let second : w .k ≡ pair .1 - 1 = omega (arith, w .second) in
+    let a = getD ls (w .m) blank in
+    let b = getD ls (w .k) blank in
     record {
       order = (omega (arith, w .first), omega (arith, w .first, w .second, w .order), omega (arith, w .second, w .inside));
       regular = (subst (λ n. isRegular (getD ls n blank) ≡ true) first (w .low), subst (λ n. isRegular (getD ls n blank) ≡ true) second (w .high));
-      never =
-          subst (λ n. (x y : ℕ) → apartLines (at (getD ls n blank) x) (at (getD ls (pair .1 - 1) blank) y) ≡ false) first
-          (subst (λ n. (x y : ℕ) → apartLines (at (getD ls (w .m) blank) x) (at (getD ls n blank) y) ≡ false) second (too-long (getD ls (w .m) blank) (getD ls (w .k) blank) (w .long)));
+      never = subst (λ n. Crowded (getD ls n blank) (getD ls (pair .1 - 1) blank)) first (subst (λ n. Crowded (getD ls (w .m) blank) (getD ls n blank)) second (too-long a b (leb-false (a .length + b .length) (gcdOf (a .period) (b .period)) (w .long))));
     }
 
 -- one more line, of the lower lines and of the higher
-pub lower-more : (ls : List Line) (i : ℕ) → i < length ls → (b : Bool) → isRegular (getD ls i blank) ≡ b → orElse (cond b (shortWith (getD ls i blank) (i + 1) (i + 1 + 1) (drop (i + 1) ls)) None) (shortPair (i + 1 + 1) (drop (i + 1) ls)) ≡ shortPair (i + 1) (drop i ls)
+pub lower-more : (ls : List Line) (i : ℕ) → i < length ls → (b : Bool) → b ≡ isRegular (getD ls i blank) → orElse (cond b (shortWith (getD ls i blank) (i + 1) (i + 1 + 1) (drop (i + 1) ls)) None) (shortPair (i + 1 + 1) (drop (i + 1) ls)) ≡ shortPair (i + 1) (drop i ls)
 lower-more ls i inside b e =
-    ap (λ t. orElse (cond t (shortWith (getD ls i blank) (i + 1) (i + 1 + 1) (drop (i + 1) ls)) None) (shortPair (i + 1 + 1) (drop (i + 1) ls))) (sym e)
+    ap (λ t. orElse (cond t (shortWith (getD ls i blank) (i + 1) (i + 1 + 1) (drop (i + 1) ls)) None) (shortPair (i + 1 + 1) (drop (i + 1) ls))) e
     ∙ sym (at-drop-more (shortPair (i + 1)) ls i blank inside)
 
-pub higher-more : (a : Line) (ls : List Line) (i j : ℕ) → j < length ls → (b : Bool) → (isRegular (getD ls j blank) && not (roomyLines a (getD ls j blank))) ≡ b → cond b (Some (i, j + 1)) (shortWith a i (j + 1 + 1) (drop (j + 1) ls)) ≡ shortWith a i (j + 1) (drop j ls)
-higher-more a ls i j inside b e =
-    ap (λ t. cond t (Some (i, j + 1)) (shortWith a i (j + 1 + 1) (drop (j + 1) ls))) (sym e) ∙ sym (at-drop-more (shortWith a i (j + 1)) ls j blank inside)
+pub higher-more : (a : Line) (ls : List Line) (i j : ℕ) → j < length ls → (b : Bool) → b ≡ (isRegular (getD ls j blank) && not (roomyLines a (getD ls j blank))) → cond b (Some (i, j + 1)) (shortWith a i (j + 1 + 1) (drop (j + 1) ls)) ≡ shortWith a i (j + 1) (drop j ls)
+higher-more a ls i j inside b e = ap (λ t. cond t (Some (i, j + 1)) (shortWith a i (j + 1 + 1) (drop (j + 1) ls))) e ∙ sym (at-drop-more (shortWith a i (j + 1)) ls j blank inside)

@@ -1,15 +1,15 @@
 -- One step of the search, over lists: `was` as it began, ls as it stands, with the lines before n
 -- placed as they were and the others changed in their offsets only.
-use Prim.Native.Nat.{ℕ, _+_, _-_, _<_, _≤_}
-use mathlib.Core.Path.{_≡_, refl, sym, ap, subst, _∙_}
-use mathlib.Core.Bool.{Bool, true, false, cond}
+use Prim.Native.Nat.{ℕ, _+_, _-_, _<_}
+use mathlib.Core.Path.{_≡_, sym, ap, _∙_}
+use mathlib.Core.Bool.{true, false}
 use mathlib.Core.List.{List, [], _∷_, _++_, map}
 use native.Mathlib.Omega.{arith}
 use lib.ListN.{length, getD, take, drop, set}
-use Rattle.std.proofs.shelf.Lists.{take-take, take-more, take-more-set, take-set, drop-more, drop-set-lt, getD-take, getD-set-same, length-set}
+use Rattle.std.proofs.shelf.Lists.{take-take, take-more-set, take-set, drop-more, drop-set-lt, getD-take, getD-set-same, length-set}
 use Rattle.std.proofs.shelf.Tests.{cond-true, cond-false}
 use Rattle.std.specs.declared.option.Option.{Option}
-use Rattle.std.specs.declared.option.Option.the-variants.{Some, None}
+use Rattle.std.specs.declared.option.Option.the-variants.{None}
 use Rattle.model.specs.Ranges.{isRegular, blank}
 use Rattle.model.specs.declared.line.Line.{Line}
 use Rattle.windows.specs.Windows.{at}
@@ -40,38 +40,37 @@ module _ (was ls : List Line) (n : ℕ) (within : n < length ls) (inside : n < l
   rest : map unplaced (drop (n + 1) ls) ≡ map unplaced (drop (n + 1) was)
   rest = let e = both in cc
 
-  module _ (regular : isRegular (getD was n blank) ≡ true) (o : ℕ) where
-    moved-same : at (getD ls n blank) o ≡ at (getD was n blank) o
-    moved-same = same-moved (getD ls n blank) (getD was n blank) here (same-kind (getD ls n blank) (getD was n blank) here ∙ regular) o
+  -- m is the line of place n, moved to offset o
+  module _ (regular : isRegular (getD was n blank) ≡ true) (o : ℕ) (m : Line) (is : m ≡ at (getD ls n blank) o) where
+    moved : m ≡ at (getD was n blank) o
+    moved = is ∙ same-moved (getD ls n blank) (getD was n blank) here (same-kind (getD ls n blank) (getD was n blank) here ∙ regular) o
+
+    same-test : clearOf (take n was) (at (getD was n blank) o) ≡ clearOf (take n ls) m
+    same-test = ap (λ xs. clearOf xs (at (getD was n blank) o)) (sym kept) ∙ ap (clearOf (take n ls)) (sym moved)
 
     -- a candidate that is not clear of those placed leads to nothing
-    pub not-clear : clearOf (take n ls) (at (getD ls n blank) o) ≡ false → candidate (take n was) (getD was n blank) (drop (n + 1) was) o ≡ None
-    not-clear e =
-        cond-false (clearOf (take n was) (at (getD was n blank) o)) (place (take n was ++ at (getD was n blank) o ∷ []) (drop (n + 1) was)) None
-        (ap (λ xs. clearOf xs (at (getD was n blank) o)) (sym kept) ∙ ap (clearOf (take n ls)) (sym moved-same) ∙ e)
+    pub not-clear : false ≡ clearOf (take n ls) m → candidate (take n was) (getD was n blank) (drop (n + 1) was) o ≡ None
+    not-clear e = cond-false (clearOf (take n was) (at (getD was n blank) o)) (place (take n was ++ at (getD was n blank) o ∷ []) (drop (n + 1) was)) None (same-test ∙ sym e)
 
     -- one that is leads where the search goes on
-    pub goes-on : (r : Option (List Line)) → clearOf (take n ls) (at (getD ls n blank) o) ≡ true → place (take (n + 1) (set ls n (at (getD ls n blank) o))) (drop (n + 1) (set ls n (at (getD ls n blank) o))) ≡ r → candidate (take n was) (getD was n blank) (drop (n + 1) was) o ≡ r
+    pub goes-on : (r : Option (List Line)) → true ≡ clearOf (take n ls) m → place (take (n + 1) (set ls n m)) (drop (n + 1) (set ls n m)) ≡ r → candidate (take n was) (getD was n blank) (drop (n + 1) was) o ≡ r
     goes-on r e p =
-        cond-true (clearOf (take n was) (at (getD was n blank) o)) (place (take n was ++ at (getD was n blank) o ∷ []) (drop (n + 1) was)) None
-        (ap (λ xs. clearOf xs (at (getD was n blank) o)) (sym kept) ∙ ap (clearOf (take n ls)) (sym moved-same) ∙ e)
+        cond-true (clearOf (take n was) (at (getD was n blank) o)) (place (take n was ++ at (getD was n blank) o ∷ []) (drop (n + 1) was)) None (same-test ∙ sym e)
         ∙ place-unplaced (take n was ++ at (getD was n blank) o ∷ []) (drop (n + 1) was) (drop (n + 1) ls) (sym rest)
-        ∙ ap (λ xs. place xs (drop (n + 1) ls)) (ap (λ l. take n was ++ l ∷ []) (sym moved-same) ∙ ap (λ xs. xs ++ at (getD ls n blank) o ∷ []) (sym kept) ∙ sym (take-more-set ls n (at (getD ls n blank) o) within))
-        ∙ ap (place (take (n + 1) (set ls n (at (getD ls n blank) o)))) (sym (drop-set-lt (n + 1) ls n (at (getD ls n blank) o) (omega arith)))
+        ∙ ap (λ xs. place xs (drop (n + 1) ls)) (ap (λ l. take n was ++ l ∷ []) (sym moved) ∙ ap (λ xs. xs ++ m ∷ []) (sym kept) ∙ sym (take-more-set ls n m within))
+        ∙ ap (place (take (n + 1) (set ls n m))) (sym (drop-set-lt (n + 1) ls n m (omega arith)))
         ∙ p
 
     -- and what it leaves behind
-    pub left-behind : (last : List Line) → length last ≡ length ls → take (n + 1) last ≡ take (n + 1) (set ls n (at (getD ls n blank) o)) → map unplaced (drop (n + 1) last) ≡ map unplaced (drop (n + 1) (set ls n (at (getD ls n blank) o))) → (take n last ≡ take n was) × (map unplaced (drop n last) ≡ map unplaced (drop n was))
+    pub left-behind : (last : List Line) → length last ≡ length (set ls n m) → take (n + 1) last ≡ take (n + 1) (set ls n m) → map unplaced (drop (n + 1) last) ≡ map unplaced (drop (n + 1) (set ls n m)) → (take n last ≡ take n was) × (map unplaced (drop n last) ≡ map unplaced (drop n was))
     left-behind last long e r =
-        let new = set ls n (at (getD ls n blank) o) in
-        let more = length-set ls n (at (getD ls n blank) o) in
-        let f = fewer last new n (omega arith) (omega arith) e r in
-        (
-          f .0 ∙ take-set ls n (at (getD ls n blank) o) ∙ kept,
+        let more = length-set ls n m in
+        let f = fewer last (set ls n m) n (omega arith) (omega arith) e r in (
+          f .0 ∙ take-set ls n m ∙ kept,
           f .1
-          ∙ agree-more new was n (omega arith) inside
-            (ap unplaced (getD-set-same ls n (at (getD ls n blank) o) blank within ∙ moved-same) ∙ unplaced-moved)
-            (ap (map unplaced) (drop-set-lt (n + 1) ls n (at (getD ls n blank) o) (omega arith)) ∙ rest),
+              ∙ agree-more (set ls n m) was n (omega arith) inside
+              (ap unplaced (getD-set-same ls n m blank within ∙ moved) ∙ unplaced-moved)
+              (ap (map unplaced) (drop-set-lt (n + 1) ls n m (omega arith)) ∙ rest),
         )
       where
         unplaced-moved : unplaced (at (getD was n blank) o) ≡ unplaced (getD was n blank)

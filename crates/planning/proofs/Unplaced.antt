@@ -1,7 +1,7 @@
 -- The search does not look at the offsets that regular lines have before it comes to them.
 use Prim.Native.Nat.{ℕ}
-use mathlib.Core.Path.{_≡_, refl, sym, ap, subst, _∙_}
-use mathlib.Core.Bool.{Bool, true, false, cond}
+use mathlib.Core.Path.{_≡_, refl, sym, ap, _∙_}
+use mathlib.Core.Bool.{true, false, cond}
 use mathlib.Core.List.{List, [], _∷_, _++_, map}
 use mathlib.Core.Logic.{⊎-elim}
 use native.Mathlib.Omega.{arith}
@@ -54,8 +54,8 @@ place-unplaced placed (l ∷ ls) (m ∷ ms) e =
     (λ (yes : isRegular l ≡ true).
     place-regular placed l ls yes
     ∙ try-same (l .period) 0 (candidate placed l ls) (candidate placed m ms) (λ o.
-      ap (λ x. cond (clearOf placed x) (place (placed ++ x ∷ []) ls) None) (same-moved l m head yes o)
-      ∙ ap (λ p. cond (clearOf placed (at m o)) p None) (place-unplaced (placed ++ at m o ∷ []) ls ms rest))
+    ap (λ x. cond (clearOf placed x) (place (placed ++ x ∷ []) ls) None) (same-moved l m head yes o)
+    ∙ ap (λ p. cond (clearOf placed (at m o)) p None) (place-unplaced (placed ++ at m o ∷ []) ls ms rest))
     ∙ ap (λ t. tryFrom t 0 (candidate placed m ms)) (same-period l m head yes)
     ∙ sym (place-regular placed m ms (sym (same-kind l m head) ∙ yes)))
     (λ (no : isRegular l ≡ false).

@@ -5,7 +5,7 @@
 --   withDeadlines   all lines with their deadlines in the plan
 --   tightAt         the first line whose deadline is below its length
 use Prim.Native.Nat.{ℕ, _+_, _-_, min}
-use mathlib.Core.Bool.{Bool, true, false, cond}
+use mathlib.Core.Bool.{cond}
 use mathlib.Core.List.{List, [], _∷_, map}
 use lib.Dec.{ltb}
 use Rattle.std.specs.declared.option.Option.{Option}

@@ -2,11 +2,13 @@
 --   hyperFrom, hyperperiod   the least common multiple of all periods, 1 without lines
 --   limit                    the longest hyperperiod that a plan may have
 --   passesAt                 the first line with which the least common multiple passes the limit
+--   PassesFirst              a line is the first with which it does
 --   IsHyperperiod            what makes a number the hyperperiod
-use Prim.Native.Nat.{ℕ, _+_, _∣_}
+use Prim.Native.Nat.{ℕ, _+_, _-_, _<_, _≤_, _∣_}
 use mathlib.Core.Bool.{cond}
 use mathlib.Core.List.{List, [], _∷_}
 use lib.Dec.{ltb}
+use lib.ListN.{length, take}
 use Rattle.std.specs.shelf.Lists.{All}
 use Rattle.std.specs.declared.option.Option.{Option}
 use Rattle.std.specs.declared.option.Option.the-variants.{Some, None}
@@ -27,6 +29,12 @@ limit = 1000000
 abbrev pub passesAt : ℕ → ℕ → List Line → Option ℕ
 passesAt n h [] = None
 passesAt n h (l ∷ ls) = cond (ltb limit (lcmOf h (l .period))) (Some n) (passesAt (n + 1) (lcmOf h (l .period)) ls)
+
+-- n is the first number of lines whose least common multiple passes the limit
+pub record PassesFirst (ls : List Line) (n : ℕ) : Type 0 where
+  pub place : (0 < n) × (n ≤ length ls)
+  pub before : hyperperiod (take (n - 1) ls) ≤ limit
+  pub past : limit < hyperperiod (take n ls)
 
 -- Every period divides h, and h divides every number that every period divides.
 pub record IsHyperperiod (ls : List Line) (h : ℕ) : Type 0 where

@@ -18,7 +18,7 @@ use Rattle.std.specs.declared.option.Option.{Option}
 use Rattle.std.specs.declared.option.Option.the-variants.{Some, None}
 use Rattle.model.specs.Ranges.{isRegular, blank}
 use Rattle.model.specs.declared.line.Line.{Line}
-use Rattle.windows.specs.Windows.{Meet, apartLines, roomyLines, at}
+use Rattle.windows.specs.Windows.{Meet, apartLines, roomyLines, at, Crowded}
 
 abbrev pub orElse : {X : Type 0} → Option X → Option X → Option X
 orElse (Some x) o = Some x
@@ -34,11 +34,11 @@ abbrev pub shortPair : ℕ → List Line → Option (ℕ × ℕ)
 shortPair i [] = None
 shortPair i (a ∷ bs) = orElse (cond (isRegular a) (shortWith a i (i + 1) bs) None) (shortPair (i + 1) bs)
 
--- two regular lines, counted from 1, the lower first, that fail the pair test at all offsets
+-- two regular lines, counted from 1, the lower first, that no offsets keep apart
 pub record NeverApart (ls : List Line) (pair : ℕ × ℕ) : Type 0 where
   pub order : (0 < pair .0) × (pair .0 < pair .1) × (pair .1 ≤ length ls)
   pub regular : (isRegular (getD ls (pair .0 - 1) blank) ≡ true) × (isRegular (getD ls (pair .1 - 1) blank) ≡ true)
-  pub never : (x y : ℕ) → apartLines (at (getD ls (pair .0 - 1) blank) x) (at (getD ls (pair .1 - 1) blank) y) ≡ false
+  pub never : Crowded (getD ls (pair .0 - 1) blank) (getD ls (pair .1 - 1) blank)
 
 -- the offset that a regular line had is of no account
 abbrev pub unplaced : Line → Line

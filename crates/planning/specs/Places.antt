@@ -2,7 +2,7 @@
 --   planSet     its policy and its lines
 use Rattle.std.specs.Of.Vec.{vec-items}
 use Rattle.model.specs.TaskSets.{TaskSet, taskSet}
-use Rattle.planning.specs.declared.plan_of.Plan.{Plan}
+use Rattle.planning.specs.declared.plan.Plan.{Plan}
 
 abbrev pub planSet : Plan → TaskSet
 planSet p = taskSet (p .policy) (vec-items (p .lines))

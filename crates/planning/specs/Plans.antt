@@ -4,22 +4,25 @@
 --   Unplaceable   no offsets keep every two regular lines apart
 --   PlacedFirst   the offsets of a plan, and what a refusal for want of them says
 --   Planned, AllPlanned   the ranges of a plan's lines
-use Prim.Native.Nat.{ℕ, _<_}
+--   IsPlan        what every plan keeps of its lines
+use Prim.Native.Nat.{ℕ, _<_, _≤_}
 use mathlib.Core.Path.{_≡_}
 use mathlib.Core.Bool.{true}
 use mathlib.Core.List.{List, []}
 use lib.ListN.{length, getD}
+use Rattle.std.specs.Results.{Cases}
 use Rattle.std.specs.declared.option.Option.{Option}
 use Rattle.std.specs.declared.option.Option.the-variants.{Some, None}
 use Rattle.std.specs.declared.result.Result.{Result}
 use Rattle.std.specs.declared.result.Result.the-variants.{Ok, Err}
-use Rattle.model.specs.Ranges.{Ranged, isRegular, blank}
+use Rattle.model.specs.Ranges.{Ranged, isRegular, blank, regulars}
 use Rattle.model.specs.TaskSets.{TaskSet, taskSet}
 use Rattle.model.specs.declared.fault.Fault.{Fault}
 use Rattle.model.specs.declared.fault.Fault.the-variants.{HyperperiodTooLong, PairTooLong, NoOffsets, DeadlineTooShort}
 use Rattle.model.specs.declared.line.Line.{Line}
 use Rattle.model.specs.declared.policy.Policy.{Policy}
-use Rattle.planning.specs.Hyperperiods.{passesAt}
+use Rattle.windows.specs.Windows.{AllApart}
+use Rattle.planning.specs.Hyperperiods.{hyperperiod, limit, passesAt}
 use Rattle.planning.specs.Offsets.{shortPair, place, Placing, Least}
 use Rattle.planning.specs.Deadlines.{withDeadlines, tightAt}
 
@@ -38,8 +41,8 @@ planOf s =
     refuse (passesAt 1 1 (s .lines)) HyperperiodTooLong
     (refuse (shortPair 1 (s .lines)) (λ pair. PairTooLong (pair .0) (pair .1))
     (need (place [] (s .lines)) NoOffsets (λ placed.
-     refuse (tightAt 1 (withDeadlines (s .policy) placed)) DeadlineTooShort
-     (Ok (taskSet (s .policy) (withDeadlines (s .policy) placed))))))
+    refuse (tightAt 1 (withDeadlines (s .policy) placed)) DeadlineTooShort
+    (Ok (taskSet (s .policy) (withDeadlines (s .policy) placed))))))
 
 -- no offsets keep every two regular lines apart
 abbrev pub Unplaceable : List Line → Type 0
@@ -48,8 +51,10 @@ Unplaceable ls = (q : List Line) → Placing ls q → ⊥
 -- A plan made of ls has the first placing of ls, with the plan's deadlines; only where ls has no placing
 -- is it refused for want of offsets.
 abbrev pub PlacedFirst : {X : Type 0} → Result X Fault → Policy → List Line → List Line → Type 0
-PlacedFirst (Ok _) policy ls after = (q : List Line) × Least ls q × (after ≡ withDeadlines policy q)
-PlacedFirst (Err e) policy ls after = ((i j : ℕ) → e ≡ PairTooLong i j → Unplaceable ls) × (e ≡ NoOffsets → Unplaceable ls)
+PlacedFirst r policy ls after =
+    Cases r
+    (λ _. (q : List Line) × Least ls q × (after ≡ withDeadlines policy q))
+    (λ e. ((i j : ℕ) → e ≡ PairTooLong i j → Unplaceable ls) × (e ≡ NoOffsets → Unplaceable ls))
 
 -- every figure in its range, and a regular line's offset below its period
 abbrev pub Planned : Line → Type 0
@@ -57,3 +62,10 @@ Planned l = Ranged l × (isRegular l ≡ true → l .offset < l .period)
 
 abbrev pub AllPlanned : List Line → Type 0
 AllPlanned ls = (i : ℕ) → i < length ls → Planned (getD ls i blank)
+
+-- what every plan keeps of its lines
+pub record IsPlan (ls : List Line) : Type 0 where
+  pub planned : AllPlanned ls
+  pub limited : regulars ls ≤ 8
+  pub apart : AllApart ls
+  pub short : hyperperiod ls ≤ limit

@@ -2,11 +2,22 @@
 
 ghost use Prim.Native.Nat.{_≤_};
 ghost use mathlib.Core.Path.{_≡_};
+ghost use lib.Dec.{ltb};
 ghost use lib.ListN.{length};
-ghost use Rattle.planning.specs.Deadlines.{leastOrdinary, changed, withDeadlines, tightAt};
+ghost use Rattle.planning.specs.Deadlines.{minWith, leastOrdinary, changed, withDeadlines, tightAt};
 use crate::regular::is_regular;
 use model::line::Line;
 use model::policy::Policy;
+
+// The smaller of a deadline and the least so far, if there is one.
+fn smaller(deadline: u32, least: Option<u32>) -> u32
+    ensures { λ r. ⌜ r ≡ minWith deadline least ⌝ }
+{
+    match least {
+        None => deadline,
+        Some(m) => deadline.min(m),
+    }
+}
 
 // The least deadline of the ordinary lines.
 fn least_ordinary(lines: &[Line]) -> Option<u32>
@@ -15,10 +26,7 @@ fn least_ordinary(lines: &[Line]) -> Option<u32>
     let mut least = None;
     for line in lines {
         if !is_regular(line) {
-            least = match least {
-                None => Some(line.deadline),
-                Some(m) => Some(line.deadline.min(m)),
-            };
+            least = Some(smaller(line.deadline, least));
         }
     }
     least
@@ -47,13 +55,19 @@ pub(crate) fn set_deadlines(lines: &mut [Line], policy: Policy)
     }
 }
 
+fn is_tight(line: &Line) -> bool
+    ensures { λ r. ⌜ r ≡ ltb (now (line .entry) .deadline) (now (line .entry) .length) ⌝ }
+{
+    line.deadline < line.length
+}
+
 // The first line whose deadline is below its length, by its number from 1 on.
 pub(crate) fn tight_line(lines: &[Line]) -> Option<u32>
     requires { ⌜ length (now lines) ≤ 24 ⌝ }
     ensures { λ r. ⌜ r ≡ tightAt 1 (now (lines .entry)) ⌝ }
 {
     for (i, line) in lines.iter().enumerate() {
-        if line.deadline < line.length {
+        if is_tight(line) {
             return Some(i as u32 + 1);
         }
     }

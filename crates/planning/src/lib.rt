@@ -3,5 +3,5 @@
 mod deadlines;
 mod hyperperiod;
 mod offsets;
-pub mod plan_of;
+pub mod plan;
 mod regular;

@@ -1,31 +1,24 @@
 use mathlib.Core.Path.{sym, ap, _∙_}
 use Prim.Native.Nat.{_+_}
-use lib.ListN.{getD, drop}
+use lib.ListN.{drop}
 use Rattle.std.proofs.shelf.Lists.{at-drop-all}
-use Rattle.std.specs.declared.option.Option.the-variants.{Some, None}
-use Rattle.model.specs.Ranges.{blank}
+use Rattle.std.specs.declared.option.Option.the-variants.{Some}
 use Rattle.planning.specs.Deadlines.{leastOrdinary}
 use Rattle.planning.proofs.LeastDeadline.{joined, joined-none, regular-more, ordinary-more}
 use Rattle.planning.proofs.deadlines.least_ordinary.Needs as need
-use Rattle.planning.proofs.deadlines.least_ordinary.Needs.{then-not-is-regular·in-None, then-not-is-regular·in-Some, else-not-is-regular}
+use Rattle.planning.proofs.deadlines.least_ordinary.Needs.{then-not-is-regular, else-not-is-regular}
 
 pub loop-line-again : need.loop-line-again
 loop-line-again c =
     let ls = c .args .lines .now in
     let i = c .loop-line .line-index in
-    let before = leastOrdinary (drop i ls) in
     let after = leastOrdinary (drop (i + 1) ls) in
     let inside = c .loop-line-test .taken in
-    let d = getD ls i blank .deadline in
     elim (c .if-not-is-regular .came) [
-      | then-not-is-regular·in-None w ↦
-        ap (λ o. joined o after) (w .least-is) ∙ ordinary-more ls i inside (sym (w .if-not-is-regular .ensures tt)) None
-        ∙ ap (λ o. joined o before) (sym (w .in-None .is)) ∙ c .loop-line .inv
-      | then-not-is-regular·in-Some w ↦
-        ap (λ o. joined o after) (w .least-is ∙ ap Some (w .min .ensures)) ∙ ordinary-more ls i inside (sym (w .if-not-is-regular .ensures tt)) (Some (w .in-Some .m))
-        ∙ ap (λ o. joined o before) (sym (w .in-Some .is)) ∙ c .loop-line .inv
+      | then-not-is-regular w ↦
+          ap (λ o. joined o after) (w .least-is ∙ ap Some (w .smaller .ensures)) ∙ ordinary-more ls i inside (sym (w .if-not-is-regular .ensures tt)) (c .loop-line .least) ∙ c .loop-line .inv
       | else-not-is-regular w ↦
-        ap (λ o. joined o after) (w .least-is) ∙ ap (joined (c .loop-line .least)) (regular-more ls i inside (sym (w .if-not-is-regular .ensures tt))) ∙ c .loop-line .inv
+          ap (λ o. joined o after) (w .least-is) ∙ ap (joined (c .loop-line .least)) (regular-more ls i inside (sym (w .if-not-is-regular .ensures tt))) ∙ c .loop-line .inv
     ]
 
 pub returns : need.returns

@@ -1,8 +1,7 @@
 use Prim.Native.Nat.{_+_}
 use mathlib.Core.Path.{_≡_}
-use mathlib.Core.Bool.{true}
 use lib.ListN.{drop, getD}
-use Rattle.model.specs.Ranges.{isRegular, blank}
+use Rattle.model.specs.Ranges.{blank}
 use Rattle.planning.specs.Offsets.{orElse, shortWith, shortPair}
 use Rattle.planning.proofs.offsets.short_pair.Given as given
 

@@ -1,0 +1,10 @@
+pub mod Firsts
+pub mod Keeps
+pub mod Lowest
+pub mod NewTasks
+pub mod Offsets
+pub mod OneStep
+pub mod Rules
+pub mod Running
+pub mod SameLeft
+pub mod Serving

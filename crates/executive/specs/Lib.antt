@@ -1,0 +1,4 @@
+pub mod RehearsalRules
+pub mod Rehearsals
+pub mod Steps
+pub mod Tasks

@@ -1,0 +1,5 @@
+//! A plan under way: one step of the processor, and the rehearsal that is made of such steps.
+
+pub mod rehearsal;
+pub mod step;
+pub mod task;

@@ -1,0 +1,156 @@
+//! The rehearsal: a plan's lines run from instant 0 to one and to two hyperperiods after the largest
+//! offset, on tasks of its own.
+
+ghost use Prim.Native.Nat.{_+_, _*_, _<_, _≤_, _^_};
+ghost use mathlib.Core.Path.{_≡_};
+ghost use lib.ListN.{length};
+ghost use Rattle.std.specs.declared.result.Result.the-variants.{Ok};
+ghost use Rattle.std.specs.Of.Vec.{vec-items};
+ghost use Rattle.planning.specs.Hyperperiods.{hyperperiod};
+ghost use Rattle.model.specs.Ranges.{Ranged, AllRanged};
+ghost use Rattle.executive.specs.Tasks.{newTasks};
+ghost use Rattle.executive.specs.Steps.{WellFormed, stepped};
+ghost use Rattle.executive.specs.RehearsalRules.{OnlyRehearsed};
+ghost use Rattle.executive.specs.Rehearsals.{shareOf, loadOf, lastOffset, missAt, runUnits, sameLeft, andThen, betweenMarks as betweenMarksOf, rehearsalOf};
+use crate::step::step;
+use crate::task::Task;
+use model::fault::Fault;
+use model::kind::Kind;
+use model::line::Line;
+use model::ranking::Ranking;
+use planning::plan::Plan;
+
+// The units that a line takes up in one hyperperiod.
+fn share(line: &Line, h: u32) -> u64
+    requires { ⌜ Ranged (now line) ⌝ ∗ ⌜ h ≤ 1000000 ⌝ }
+    ensures value { λ r. ⌜ r ≡ shareOf h (now (line .entry)) ⌝ }
+    ensures bound { λ r. ⌜ r ≤ 60000000000 ⌝ }
+{
+    line.length as u64 * h as u64 / line.period as u64
+}
+
+fn load(lines: &[Line], h: u32) -> u64
+    requires { ⌜ AllRanged (now lines) ⌝ ∗ ⌜ h ≤ 1000000 ⌝ ∗ ⌜ length (now lines) ≤ 24 ⌝ }
+    ensures { λ r. ⌜ r ≡ loadOf h (now (lines .entry)) ⌝ }
+{
+    let mut sum = 0;
+    for line in lines {
+        sum += share(line, h);
+    }
+    sum
+}
+
+fn last_offset(lines: &[Line]) -> u32
+    ensures { λ r. ⌜ r ≡ lastOffset (now (lines .entry)) ⌝ }
+{
+    let mut last: u32 = 0;
+    for line in lines {
+        last = last.max(line.offset);
+    }
+    last
+}
+
+// The unit at `t`; a job that it strikes out is a miss.
+fn step_or_miss<R: Ranking>(tasks: &mut [Task], ranking: &R, t: u64) -> Result<(), Fault>
+    requires { ⌜ WellFormed (now tasks) ⌝ ∗ ⌜ t < 10 ^ 12 ⌝ }
+    ensures value { λ r. ⌜ r ≡ missAt t (now (tasks .entry)) ⌝ }
+    ensures tasks { λ _. ⌜ now (tasks .exit) ≡ stepped (ahead (now (ranking .entry))) t (now (tasks .entry)) ⌝ }
+{
+    let lowest = step(tasks, ranking, t).lowest;
+    if lowest == 0 {
+        return Ok(());
+    }
+    Err(Fault::Missed {
+        instant: t,
+        line: lowest,
+    })
+}
+
+// Steps from instant `from` on, up to the first step that strikes a job out.
+fn run<R: Ranking>(tasks: &mut [Task], ranking: &R, from: u64, units: u64) -> Result<(), Fault>
+    requires { ⌜ WellFormed (now tasks) ⌝ ∗ ⌜ from + units ≤ 10 ^ 12 ⌝ }
+    ensures reached { λ r. ⌜ andThen r (λ _. Ok (now (tasks .exit))) ≡ runUnits (ahead (now (ranking .entry))) units from (now (tasks .entry)) ⌝ }
+    ensures formed { λ _. ⌜ WellFormed (now (tasks .exit)) ⌝ }
+{
+    for t in from..from + units {
+        step_or_miss(tasks, ranking, t)?;
+    }
+    Ok(())
+}
+
+// Whether every line has the same units left in both.
+fn same_left(first: &[Task], second: &[Task]) -> bool
+    requires { ⌜ length (now first) ≡ length (now second) ⌝ }
+    ensures { λ r. ⌜ r ≡ sameLeft (now (first .entry)) (now (second .entry)) ⌝ }
+{
+    for i in 0..first.len() {
+        if first[i].left != second[i].left {
+            return false;
+        }
+    }
+    true
+}
+
+// New tasks of the lines, numbered from 1.
+fn set_up(tasks: &mut [Task], lines: &[Line])
+    requires { ⌜ length (now tasks) ≡ length (now lines) ⌝ ∗ ⌜ length (now lines) ≤ 24 ⌝ }
+    ensures { λ _. ⌜ now (tasks .exit) ≡ newTasks 1 (now (lines .entry)) ⌝ }
+{
+    for i in 0..lines.len() {
+        tasks[i] = Task::new(i as u32 + 1, lines[i]);
+    }
+}
+
+// To the first mark, on to the second, and the units left compared; `saved` keeps those at the first.
+fn between_marks<R: Ranking>(
+    tasks: &mut [Task],
+    saved: &mut [Task],
+    ranking: &R,
+    mark: u64,
+    h: u64,
+) -> Result<(), Fault>
+    requires { ⌜ WellFormed (now tasks) ⌝ ∗ ⌜ length (now saved) ≡ length (now tasks) ⌝ ∗ ⌜ mark + h ≤ 10 ^ 12 ⌝ }
+    ensures { λ r. ⌜ r ≡ betweenMarksOf (ahead (now (ranking .entry))) mark h (now (tasks .entry)) ⌝ }
+{
+    run(tasks, ranking, 0, mark)?;
+    saved.copy_from_slice(tasks);
+    run(tasks, ranking, mark, h)?;
+    if same_left(saved, tasks) {
+        Ok(())
+    } else {
+        Err(Fault::Unsettled)
+    }
+}
+
+const NO_LINE: Line = Line {
+    kind: Kind::Ordinary,
+    offset: 0,
+    length: 0,
+    deadline: 0,
+    period: 0,
+};
+
+pub(crate) fn rehearse_lines<R: Ranking>(lines: &[Line], ranking: &R, h: u32) -> Result<(), Fault>
+    requires { ⌜ AllRanged (now lines) ⌝ ∗ ⌜ length (now lines) ≤ 24 ⌝ ∗ ⌜ h ≤ 1000000 ⌝ }
+    ensures value { λ r. ⌜ r ≡ rehearsalOf (ahead (now (ranking .entry))) h (now (lines .entry)) ⌝ }
+    ensures rules { λ r. ⌜ OnlyRehearsed (ahead (now (ranking .entry))) h (now (lines .entry)) r ⌝ }
+{
+    if load(lines, h) > h as u64 {
+        return Err(Fault::Overload);
+    }
+    let n = lines.len();
+    let mut tasks = [Task::new(0, NO_LINE); 24];
+    let mut saved = tasks;
+    let tasks = &mut tasks[..n];
+    set_up(tasks, lines);
+    let mark = last_offset(lines) as u64 + h as u64;
+    between_marks(tasks, &mut saved[..n], ranking, mark, h as u64)
+}
+
+// Rehearses a plan under any lawful ranking; neither is altered.
+pub fn rehearse<R: Ranking>(plan: &Plan, ranking: &R) -> Result<(), Fault>
+    ensures value { λ r. ⌜ r ≡ rehearsalOf (ahead (now (ranking .entry))) (hyperperiod (vec-items (now (plan .entry) .lines))) (vec-items (now (plan .entry) .lines)) ⌝ }
+    ensures only { λ r. ⌜ OnlyRehearsed (ahead (now (ranking .entry))) (hyperperiod (vec-items (now (plan .entry) .lines))) (vec-items (now (plan .entry) .lines)) r ⌝ }
+{
+    rehearse_lines(plan.lines(), ranking, plan.hyperperiod())
+}

@@ -1,0 +1,5 @@
+pub mod Bounds
+pub mod Pages
+pub mod Places
+pub mod Told
+pub mod Written

@@ -1,0 +1,4 @@
+pub mod Desks
+pub mod Pages
+pub mod Printed
+pub mod Reports

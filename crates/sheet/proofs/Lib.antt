@@ -1,0 +1,10 @@
+pub mod Complete
+pub mod Cuts
+pub mod Joins
+pub mod LinesRead
+pub mod Numbers
+pub mod Only
+pub mod ReadIffAdmitted
+pub mod Steps
+pub mod Taken
+pub mod Walks

@@ -1,0 +1,4 @@
+pub mod Cutting
+pub mod FieldReader
+pub mod Grammar
+pub mod Reading
