@@ -1,10 +1,5 @@
-pub mod Firsts
-pub mod Keeps
-pub mod Lowest
-pub mod NewTasks
-pub mod Offsets
+pub mod Arriving
+pub mod Coming
 pub mod OneStep
-pub mod Rules
+pub mod Places
 pub mod Running
-pub mod SameLeft
-pub mod Serving

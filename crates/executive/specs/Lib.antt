@@ -1,4 +1,1 @@
-pub mod RehearsalRules
-pub mod Rehearsals
-pub mod Steps
-pub mod Tasks
+pub mod Slots

@@ -1,19 +1,22 @@
 //! The rehearsal: a plan's lines run from instant 0 to one and to two hyperperiods after the largest
-//! offset, on tasks of its own.
+//! offset, on slots of its own.
 
-ghost use Prim.Native.Nat.{_+_, _*_, _<_, _≤_, _^_};
+ghost use Prim.Native.Nat.{ℕ, _+_, _*_, _<_, _≤_, _^_};
 ghost use mathlib.Core.Path.{_≡_};
-ghost use lib.ListN.{length};
+ghost use lib.ListN.{length, getD};
+ghost use Rattle.std.specs.Vec.{made};
 ghost use Rattle.std.specs.declared.result.Result.the-variants.{Ok};
 ghost use Rattle.std.specs.Of.Vec.{vec-items};
 ghost use Rattle.planning.specs.Hyperperiods.{hyperperiod};
 ghost use Rattle.model.specs.Ranges.{Ranged, AllRanged};
-ghost use Rattle.executive.specs.Tasks.{newTasks};
-ghost use Rattle.executive.specs.Steps.{WellFormed, stepped};
-ghost use Rattle.executive.specs.RehearsalRules.{OnlyRehearsed};
-ghost use Rattle.executive.specs.Rehearsals.{shareOf, loadOf, lastOffset, missAt, runUnits, sameLeft, andThen, betweenMarks as betweenMarksOf, rehearsalOf};
+ghost use Rattle.runs.specs.Tasks.{newTasks};
+ghost use Rattle.executive.specs.Slots.{tasksOf, AllKept};
+ghost use Rattle.runs.specs.Steps.{stepped};
+ghost use Rattle.runs.specs.RehearsalRules.{OnlyRehearsed};
+ghost use Rattle.runs.specs.Rehearsals.{shareOf, loadOf, lastOffset, missAt, runUnits, sameLeft, andThen, betweenMarks as betweenMarksOf, rehearsalOf};
+use crate::slot::Slot;
 use crate::step::step;
-use crate::task::Task;
+use crate::task::new_task;
 use model::fault::Fault;
 use model::kind::Kind;
 use model::line::Line;
@@ -51,12 +54,13 @@ fn last_offset(lines: &[Line]) -> u32
 }
 
 // The unit at `t`; a job that it strikes out is a miss.
-fn step_or_miss<R: Ranking>(tasks: &mut [Task], ranking: &R, t: u64) -> Result<(), Fault>
-    requires { ⌜ WellFormed (now tasks) ⌝ ∗ ⌜ t < 10 ^ 12 ⌝ }
-    ensures value { λ r. ⌜ r ≡ missAt t (now (tasks .entry)) ⌝ }
-    ensures tasks { λ _. ⌜ now (tasks .exit) ≡ stepped (ahead (now (ranking .entry))) t (now (tasks .entry)) ⌝ }
+fn step_unmissed<R: Ranking>(slots: &mut [Slot], ranking: &R, t: u64) -> Result<(), Fault>
+    requires { ⌜ AllKept t (now slots) ⌝ ∗ ⌜ length (now slots) ≤ 24 ⌝ ∗ ⌜ t < 10 ^ 12 ⌝ }
+    ensures value { λ r. ⌜ r ≡ missAt t (tasksOf (now (slots .entry))) ⌝ }
+    ensures tasks { λ _. ⌜ tasksOf (now (slots .exit)) ≡ stepped (ahead (now (ranking .entry))) t (tasksOf (now (slots .entry))) ⌝ }
+    ensures kept { λ _. ⌜ AllKept (t + 1) (now (slots .exit)) ⌝ }
 {
-    let lowest = step(tasks, ranking, t).lowest;
+    let lowest = step(slots, ranking, t).lowest;
     if lowest == 0 {
         return Ok(());
     }
@@ -67,55 +71,56 @@ fn step_or_miss<R: Ranking>(tasks: &mut [Task], ranking: &R, t: u64) -> Result<(
 }
 
 // Steps from instant `from` on, up to the first step that strikes a job out.
-fn run<R: Ranking>(tasks: &mut [Task], ranking: &R, from: u64, units: u64) -> Result<(), Fault>
-    requires { ⌜ WellFormed (now tasks) ⌝ ∗ ⌜ from + units ≤ 10 ^ 12 ⌝ }
-    ensures reached { λ r. ⌜ andThen r (λ _. Ok (now (tasks .exit))) ≡ runUnits (ahead (now (ranking .entry))) units from (now (tasks .entry)) ⌝ }
-    ensures formed { λ _. ⌜ WellFormed (now (tasks .exit)) ⌝ }
+fn run<R: Ranking>(slots: &mut [Slot], ranking: &R, from: u64, units: u64) -> Result<(), Fault>
+    requires { ⌜ AllKept from (now slots) ⌝ ∗ ⌜ length (now slots) ≤ 24 ⌝ ∗ ⌜ from + units ≤ 10 ^ 12 ⌝ }
+    ensures reached { λ r. ⌜ andThen r (λ _. Ok (tasksOf (now (slots .exit)))) ≡ runUnits (ahead (now (ranking .entry))) units from (tasksOf (now (slots .entry))) ⌝ }
+    ensures kept { λ r. ⌜ made r (λ _. AllKept (from + units) (now (slots .exit))) ⌝ }
 {
     for t in from..from + units {
-        step_or_miss(tasks, ranking, t)?;
+        step_unmissed(slots, ranking, t)?;
     }
     Ok(())
 }
 
 // Whether every line has the same units left in both.
-fn same_left(first: &[Task], second: &[Task]) -> bool
+fn same_left(first: &[Slot], second: &[Slot]) -> bool
     requires { ⌜ length (now first) ≡ length (now second) ⌝ }
-    ensures { λ r. ⌜ r ≡ sameLeft (now (first .entry)) (now (second .entry)) ⌝ }
+    ensures { λ r. ⌜ r ≡ sameLeft (tasksOf (now (first .entry))) (tasksOf (now (second .entry))) ⌝ }
 {
     for i in 0..first.len() {
-        if first[i].left != second[i].left {
+        if first[i].task.left != second[i].task.left {
             return false;
         }
     }
     true
 }
 
-// New tasks of the lines, numbered from 1.
-fn set_up(tasks: &mut [Task], lines: &[Line])
-    requires { ⌜ length (now tasks) ≡ length (now lines) ⌝ ∗ ⌜ length (now lines) ≤ 24 ⌝ }
-    ensures { λ _. ⌜ now (tasks .exit) ≡ newTasks 1 (now (lines .entry)) ⌝ }
+// New slots of the lines, numbered from 1, at instant 0.
+fn set_up(slots: &mut [Slot], lines: &[Line])
+    requires { ⌜ length (now slots) ≡ length (now lines) ⌝ ∗ ⌜ length (now lines) ≤ 24 ⌝ ∗ ⌜ AllRanged (now lines) ⌝ }
+    ensures tasks { λ _. ⌜ tasksOf (now (slots .exit)) ≡ newTasks 1 (now (lines .entry)) ⌝ }
+    ensures kept { λ _. ⌜ AllKept 0 (now (slots .exit)) ⌝ }
 {
     for i in 0..lines.len() {
-        tasks[i] = Task::new(i as u32 + 1, lines[i]);
+        slots[i] = Slot::new(i as u32 + 1, lines[i], 0);
     }
 }
 
 // To the first mark, on to the second, and the units left compared; `saved` keeps those at the first.
 fn between_marks<R: Ranking>(
-    tasks: &mut [Task],
-    saved: &mut [Task],
+    slots: &mut [Slot],
+    saved: &mut [Slot],
     ranking: &R,
     mark: u64,
     h: u64,
 ) -> Result<(), Fault>
-    requires { ⌜ WellFormed (now tasks) ⌝ ∗ ⌜ length (now saved) ≡ length (now tasks) ⌝ ∗ ⌜ mark + h ≤ 10 ^ 12 ⌝ }
-    ensures { λ r. ⌜ r ≡ betweenMarksOf (ahead (now (ranking .entry))) mark h (now (tasks .entry)) ⌝ }
+    requires { ⌜ AllKept 0 (now slots) ⌝ ∗ ⌜ length (now slots) ≤ 24 ⌝ ∗ ⌜ length (now saved) ≡ length (now slots) ⌝ ∗ ⌜ mark + h ≤ 10 ^ 12 ⌝ }
+    ensures { λ r. ⌜ r ≡ betweenMarksOf (ahead (now (ranking .entry))) mark h (tasksOf (now (slots .entry))) ⌝ }
 {
-    run(tasks, ranking, 0, mark)?;
-    saved.copy_from_slice(tasks);
-    run(tasks, ranking, mark, h)?;
-    if same_left(saved, tasks) {
+    run(slots, ranking, 0, mark)?;
+    saved.copy_from_slice(slots);
+    run(slots, ranking, mark, h)?;
+    if same_left(saved, slots) {
         Ok(())
     } else {
         Err(Fault::Unsettled)
@@ -139,12 +144,16 @@ pub(crate) fn rehearse_lines<R: Ranking>(lines: &[Line], ranking: &R, h: u32) ->
         return Err(Fault::Overload);
     }
     let n = lines.len();
-    let mut tasks = [Task::new(0, NO_LINE); 24];
-    let mut saved = tasks;
-    let tasks = &mut tasks[..n];
-    set_up(tasks, lines);
+    let unused = Slot {
+        task: new_task(0, NO_LINE),
+        next: 0,
+    };
+    let mut slots = [unused; 24];
+    let mut saved = slots;
+    let slots = &mut slots[..n];
+    set_up(slots, lines);
     let mark = last_offset(lines) as u64 + h as u64;
-    between_marks(tasks, &mut saved[..n], ranking, mark, h as u64)
+    between_marks(slots, &mut saved[..n], ranking, mark, h as u64)
 }
 
 // Rehearses a plan under any lawful ranking; neither is altered.

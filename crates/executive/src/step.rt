@@ -1,17 +1,22 @@
 //! One unit of time: what is due is struck out, what is released arrives, and the pending job that
 //! the ranking puts first gets the unit.
 
-ghost use Prim.Native.Nat.{_+_, _<_, _≤_, _^_};
+ghost use Prim.Native.Nat.{ℕ, _+_, _<_, _≤_, _^_};
 ghost use mathlib.Core.Path.{_≡_};
 ghost use mathlib.Core.Bool.{cond};
 ghost use lib.Dec.{eqb};
 ghost use lib.ListN.{length, getD};
 ghost use Rattle.std.specs.declared.option.Option.the-variants.{Some};
-ghost use Rattle.std.specs.shelf.Lists.{All, countBy};
-ghost use Rattle.executive.specs.Tasks.{due, served, blankTask};
-ghost use Rattle.executive.specs.Steps.{better as betterOf, firstOf, taskAt, Within, Timed, WellFormed, arrivedAll, stepped as steppedAll, lowestDue, reportFor, reportOf, ToFirst};
-use crate::task::StepReport;
-use crate::task::Task;
+ghost use Rattle.std.specs.shelf.Lists.{countBy};
+ghost use Rattle.runs.specs.Tasks.{due, given};
+ghost use Rattle.executive.specs.Slots.{tasksOf, blankSlot, taskAt, Within, AllKept};
+ghost use Rattle.runs.specs.Steps.{better as betterOf, firstOf, arrivedAll, stepped as steppedAll, lowestDue, reportFor, reportOf, ToFirst};
+use runs::call::StepReport;
+use crate::slot::Slot;
+use crate::task::give;
+use crate::task::is_pending;
+use crate::task::job;
+use runs::task::Task;
 use model::ranking::Ranking;
 
 // How many jobs were struck out at an instant, and the lowest line of them, or 0.
@@ -41,36 +46,37 @@ impl Struck {
     }
 }
 
-pub(crate) fn arrive_all(tasks: &mut [Task], t: u64) -> Struck
-    requires { ⌜ All Timed (now tasks) ⌝ ∗ ⌜ length (now tasks) ≤ 24 ⌝ }
-    ensures tasks { λ _. ⌜ now (tasks .exit) ≡ arrivedAll t (now (tasks .entry)) ⌝ }
-    ensures count { λ r. ⌜ r .count ≡ countBy (due t) (now (tasks .entry)) ⌝ }
-    ensures lowest { λ r. ⌜ r .lowest ≡ lowestDue t (now (tasks .entry)) ⌝ }
+pub(crate) fn arrive_all(slots: &mut [Slot], t: u64) -> Struck
+    requires { ⌜ AllKept t (now slots) ⌝ ∗ ⌜ length (now slots) ≤ 24 ⌝ ∗ ⌜ t < 10 ^ 12 ⌝ }
+    ensures tasks { λ _. ⌜ tasksOf (now (slots .exit)) ≡ arrivedAll t (tasksOf (now (slots .entry))) ⌝ }
+    ensures kept { λ _. ⌜ AllKept (t + 1) (now (slots .exit)) ⌝ }
+    ensures count { λ r. ⌜ r .count ≡ countBy (due t) (tasksOf (now (slots .entry))) ⌝ }
+    ensures lowest { λ r. ⌜ r .lowest ≡ lowestDue t (tasksOf (now (slots .entry))) ⌝ }
 {
     let mut struck = Struck {
         count: 0,
         lowest: 0,
     };
-    for task in tasks.iter_mut() {
-        if task.arrive(t) {
-            struck.add(task.number);
+    for slot in slots.iter_mut() {
+        if slot.arrive(t) {
+            struck.add(slot.task.number);
         }
     }
     struck
 }
 
 // The better of the best place so far and the place i.
-fn better<R: Ranking>(tasks: &[Task], ranking: &R, best: Option<usize>, i: usize) -> Option<usize>
-    requires { ⌜ i < length (now tasks) ⌝ ∗ ⌜ Within (now tasks) best ⌝ }
-    ensures value { λ r. ⌜ taskAt (now (tasks .entry)) r ≡ betterOf (ahead (now (ranking .entry))) (taskAt (now (tasks .entry)) best) (getD (now (tasks .entry)) i blankTask) ⌝ }
-    ensures within { λ r. ⌜ Within (now (tasks .entry)) r ⌝ }
+fn better<R: Ranking>(slots: &[Slot], ranking: &R, best: Option<usize>, i: usize) -> Option<usize>
+    requires { ⌜ i < length (now slots) ⌝ ∗ ⌜ Within (now slots) best ⌝ }
+    ensures value { λ r. ⌜ taskAt (now (slots .entry)) r ≡ betterOf (ahead (now (ranking .entry))) (taskAt (now (slots .entry)) best) (getD (now (slots .entry)) i blankSlot .task) ⌝ }
+    ensures within { λ r. ⌜ Within (now (slots .entry)) r ⌝ }
 {
-    if !tasks[i].is_pending() {
+    if !is_pending(&slots[i].task) {
         return best;
     }
     match best {
         Some(b) => {
-            if ranking.goes_ahead(&tasks[i].job(), &tasks[b].job()) {
+            if ranking.goes_ahead(&job(&slots[i].task), &job(&slots[b].task)) {
                 Some(i)
             } else {
                 best
@@ -80,22 +86,22 @@ fn better<R: Ranking>(tasks: &[Task], ranking: &R, best: Option<usize>, i: usize
     }
 }
 
-// The place of the pending task that goes first.
-pub(crate) fn first<R: Ranking>(tasks: &[Task], ranking: &R) -> Option<usize>
-    ensures value { λ r. ⌜ taskAt (now (tasks .entry)) r ≡ firstOf (ahead (now (ranking .entry))) (now (tasks .entry)) ⌝ }
-    ensures within { λ r. ⌜ Within (now (tasks .entry)) r ⌝ }
+// The place of the pending job that goes first.
+pub(crate) fn first<R: Ranking>(slots: &[Slot], ranking: &R) -> Option<usize>
+    ensures value { λ r. ⌜ taskAt (now (slots .entry)) r ≡ firstOf (ahead (now (ranking .entry))) (tasksOf (now (slots .entry))) ⌝ }
+    ensures within { λ r. ⌜ Within (now (slots .entry)) r ⌝ }
 {
     let mut best = None;
-    for i in 0..tasks.len() {
-        best = better(tasks, ranking, best, i);
+    for i in 0..slots.len() {
+        best = better(slots, ranking, best, i);
     }
     best
 }
 
 // The unit goes to a pending task; `struck` is how many jobs the same step struck out.
 fn give_unit(task: &mut Task, struck: u32) -> StepReport
-    requires { ⌜ 0 < now task .left ⌝ }
-    ensures task { λ _. ⌜ now (task .exit) ≡ served (now (task .entry) .number) (now (task .entry)) ⌝ }
+    requires { ⌜ 0 < now task .left ⌝ ∗ ⌜ now task .counts .ended ≤ 10 ^ 12 ⌝ }
+    ensures task { λ _. ⌜ now (task .exit) ≡ given (now (task .entry)) ⌝ }
     ensures report { λ r. ⌜ r ≡ reportFor (Some (now (task .entry))) struck ⌝ }
 {
     let report = StepReport {
@@ -104,21 +110,22 @@ fn give_unit(task: &mut Task, struck: u32) -> StepReport
         ended: task.left == 1,
         struck,
     };
-    task.serve();
+    give(task);
     report
 }
 
 // The unit at instant `t`.
-pub(crate) fn step<R: Ranking>(tasks: &mut [Task], ranking: &R, t: u64) -> Stepped
-    requires { ⌜ WellFormed (now tasks) ⌝ ∗ ⌜ t < 10 ^ 12 ⌝ }
-    ensures tasks { λ _. ⌜ now (tasks .exit) ≡ steppedAll (ahead (now (ranking .entry))) t (now (tasks .entry)) ⌝ }
-    ensures report { λ r. ⌜ r .report ≡ reportOf (ahead (now (ranking .entry))) t (now (tasks .entry)) ⌝ }
-    ensures lowest { λ r. ⌜ r .lowest ≡ lowestDue t (now (tasks .entry)) ⌝ }
-    ensures first { λ r. ⌜ ToFirst (ahead (now (ranking .entry))) (arrivedAll t (now (tasks .entry))) (r .report .line) ⌝ }
+pub(crate) fn step<R: Ranking>(slots: &mut [Slot], ranking: &R, t: u64) -> Stepped
+    requires { ⌜ AllKept t (now slots) ⌝ ∗ ⌜ length (now slots) ≤ 24 ⌝ ∗ ⌜ t < 10 ^ 12 ⌝ }
+    ensures tasks { λ _. ⌜ tasksOf (now (slots .exit)) ≡ steppedAll (ahead (now (ranking .entry))) t (tasksOf (now (slots .entry))) ⌝ }
+    ensures kept { λ _. ⌜ AllKept (t + 1) (now (slots .exit)) ⌝ }
+    ensures report { λ r. ⌜ r .report ≡ reportOf (ahead (now (ranking .entry))) t (tasksOf (now (slots .entry))) ⌝ }
+    ensures lowest { λ r. ⌜ r .lowest ≡ lowestDue t (tasksOf (now (slots .entry))) ⌝ }
+    ensures first { λ r. ⌜ ToFirst (ahead (now (ranking .entry))) (arrivedAll t (tasksOf (now (slots .entry)))) (r .report .line) ⌝ }
 {
-    let struck = arrive_all(tasks, t);
-    let report = match first(tasks, ranking) {
-        Some(i) => give_unit(&mut tasks[i], struck.count),
+    let struck = arrive_all(slots, t);
+    let report = match first(slots, ranking) {
+        Some(i) => give_unit(&mut slots[i].task, struck.count),
         None => StepReport {
             line: 0,
             began: false,

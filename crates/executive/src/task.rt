@@ -1,118 +1,90 @@
-//! One line under way.
+//! What one instant does to a line under way.
 
-ghost use Prim.Native.Nat.{_<_};
+ghost use Prim.Native.Nat.{_<_, _≤_, _^_};
 ghost use mathlib.Core.Path.{_≡_};
-ghost use Rattle.executive.specs.Tasks.{pending, due, struck, arrives, admitted, arrived, jobOf, served, newTask};
+ghost use mathlib.Core.Bool.{true};
+ghost use Rattle.runs.specs.Tasks.{pending, due, struck, arrives, admitted, jobOf, given, newTask};
 use model::job::Job;
 use model::line::Line;
 
-// `left` is what the pending job has still to run, 0 where none is pending; `release` is that job's
-// release.
-#[derive(Clone, Copy)]
-pub struct Task {
-    pub number: u32,
-    pub line: Line,
-    pub release: u64,
-    pub left: u32,
-    pub resting: bool,
+use runs::task::Counts;
+use runs::task::Task;
+
+// Before its first instant, and not at rest.
+pub(crate) fn new_task(number: u32, line: Line) -> Task
+    ensures { λ r. ⌜ r ≡ newTask number line ⌝ }
+{
+    Task {
+        number,
+        line,
+        release: 0,
+        left: 0,
+        resting: false,
+        counts: Counts {
+            made: 0,
+            ended: 0,
+            missed: 0,
+            aside: 0,
+        },
+    }
 }
 
-// What a step replies: the line that had the unit, or 0; whether its job began and ended with it;
-// and how many jobs were struck out.
-#[derive(Clone, Copy)]
-pub struct StepReport {
-    pub line: u32,
-    pub began: bool,
-    pub ended: bool,
-    pub struck: u32,
+pub(crate) fn is_pending(task: &Task) -> bool
+    ensures { λ r. ⌜ r ≡ pending (now (task .entry)) ⌝ }
+{
+    task.left > 0
 }
 
-impl Task {
-    // Before its first instant, and not at rest.
-    pub(crate) fn new(number: u32, line: Line) -> Task
-        ensures { λ r. ⌜ r ≡ newTask number line ⌝ }
-    {
-        Task {
-            number,
-            line,
-            release: 0,
-            left: 0,
-            resting: false,
-        }
-    }
+fn is_due(task: &Task, t: u64) -> bool
+    requires { ⌜ now task .release < 10 ^ 12 ⌝ }
+    ensures { λ r. ⌜ r ≡ due t (now (task .entry)) ⌝ }
+{
+    task.left > 0 && task.release + task.line.deadline as u64 == t
+}
 
-    pub(crate) fn is_pending(&self) -> bool
-        ensures { λ r. ⌜ r ≡ pending (now (self .entry)) ⌝ }
-    {
-        self.left > 0
+// Strikes the pending job out if it comes to its deadline at `t`, and says whether it did.
+pub(crate) fn strike(task: &mut Task, t: u64) -> bool
+    requires { ⌜ now task .release < 10 ^ 12 ⌝ ∗ ⌜ now task .counts .missed ≤ 10 ^ 12 ⌝ }
+    ensures value { λ r. ⌜ r ≡ due t (now (task .entry)) ⌝ }
+    ensures after { λ _. ⌜ now (task .exit) ≡ struck t (now (task .entry)) ⌝ }
+{
+    let due = is_due(task, t);
+    if due {
+        task.left = 0;
+        task.counts.missed += 1;
     }
+    due
+}
 
-    // A sum of any release and deadline fits 128 bits.
-    fn is_due(&self, t: u64) -> bool
-        ensures { λ r. ⌜ r ≡ due t (now (self .entry)) ⌝ }
-    {
-        self.left > 0 && self.release as u128 + self.line.deadline as u128 == t as u128
+// Gives the line the job of its release at `t`.
+pub(crate) fn admit(task: &mut Task, t: u64)
+    requires { ⌜ arrives t (now task) ≡ true ⌝ ∗ ⌜ now task .counts .made ≤ 10 ^ 12 ⌝ }
+    ensures { λ _. ⌜ now (task .exit) ≡ admitted t (now (task .entry)) ⌝ }
+{
+    task.release = t;
+    task.left = task.line.length;
+    task.counts.made += 1;
+}
+
+// The pending job has one unit less left, and has ended with its last.
+pub(crate) fn give(task: &mut Task)
+    requires { ⌜ 0 < now task .left ⌝ ∗ ⌜ now task .counts .ended ≤ 10 ^ 12 ⌝ }
+    ensures { λ _. ⌜ now (task .exit) ≡ given (now (task .entry)) ⌝ }
+{
+    if task.left == 1 {
+        task.counts.ended += 1;
     }
+    task.left -= 1;
+}
 
-    // Strikes the pending job out if it comes to its deadline at `t`, and says whether it did.
-    pub(crate) fn strike(&mut self, t: u64) -> bool
-        ensures value { λ r. ⌜ r ≡ due t (now (self .entry)) ⌝ }
-        ensures after { λ _. ⌜ now (self .exit) ≡ struck t (now (self .entry)) ⌝ }
-    {
-        let due = self.is_due(t);
-        if due {
-            self.left = 0;
-        }
-        due
-    }
-
-    fn is_released(&self, t: u64) -> bool
-        requires { ⌜ 0 < now self .line .period ⌝ }
-        ensures { λ r. ⌜ r ≡ arrives t (now (self .entry)) ⌝ }
-    {
-        let offset = self.line.offset as u64;
-        !self.resting && offset <= t && (t - offset) % self.line.period as u64 == 0
-    }
-
-    // Gives the line the job of its release at `t`, if it has one.
-    pub(crate) fn admit(&mut self, t: u64)
-        requires { ⌜ 0 < now self .line .period ⌝ }
-        ensures { λ _. ⌜ now (self .exit) ≡ admitted t (now (self .entry)) ⌝ }
-    {
-        if self.is_released(t) {
-            self.release = t;
-            self.left = self.line.length;
-        }
-    }
-
-    // What comes due is struck out before the release of the same instant is admitted.
-    pub(crate) fn arrive(&mut self, t: u64) -> bool
-        requires { ⌜ 0 < now self .line .period ⌝ }
-        ensures value { λ r. ⌜ r ≡ due t (now (self .entry)) ⌝ }
-        ensures after { λ _. ⌜ now (self .exit) ≡ arrived t (now (self .entry)) ⌝ }
-    {
-        let struck = self.strike(t);
-        self.admit(t);
-        struck
-    }
-
-    // The pending job has one unit less left.
-    pub(crate) fn serve(&mut self)
-        requires { ⌜ 0 < now self .left ⌝ }
-        ensures { λ _. ⌜ now (self .exit) ≡ served (now (self .entry) .number) (now (self .entry)) ⌝ }
-    {
-        self.left -= 1;
-    }
-
-    pub(crate) fn job(&self) -> Job
-        ensures { λ r. ⌜ r ≡ jobOf (now (self .entry)) ⌝ }
-    {
-        Job {
-            line: self.number,
-            kind: self.line.kind,
-            release: self.release,
-            deadline: self.line.deadline,
-            period: self.line.period,
-        }
+pub(crate) fn job(task: &Task) -> Job
+    ensures { λ r. ⌜ r ≡ jobOf (now (task .entry)) ⌝ }
+{
+    Job {
+        line: task.number,
+        kind: task.line.kind,
+        release: task.release,
+        deadline: task.line.deadline,
+        period: task.line.period,
     }
 }

@@ -27,7 +27,7 @@ use Rattle.model.specs.TaskSets.{TaskSet}
 use Rattle.sheet.specs.Reading.{readSheet, andThen}
 use Rattle.planning.specs.Hyperperiods.{hyperperiod}
 use Rattle.planning.specs.Plans.{planOf}
-use Rattle.executive.specs.Rehearsals.{rehearsalOf}
+use Rattle.runs.specs.Rehearsals.{rehearsalOf}
 use Rattle.report.specs.Pages.{written}
 use Rattle.report.specs.Printed.{faultLine, outcomeText}
 

@@ -1,10 +1,10 @@
 use Prim.Native.Nat.{_+_, max}
-use mathlib.Core.Path.{_≡_}
+use mathlib.Core.Path.{_≡_, sym, ap, _∙_}
 use native.Mathlib.Omega.{arith}
 use lib.ListN.{drop, getD}
 use Rattle.std.proofs.shelf.Lists.{at-drop-more, at-drop-all}
 use Rattle.model.specs.Ranges.{blank}
-use Rattle.executive.specs.Rehearsals.{lastOffset}
+use Rattle.runs.specs.Rehearsals.{lastOffset}
 use Rattle.executive.proofs.rehearsal.last_offset.Needs as need
 
 pub loop-line-again : need.loop-line-again

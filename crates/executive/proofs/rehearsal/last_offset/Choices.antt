@@ -1,7 +1,7 @@
 use Prim.Native.Nat.{max}
 use mathlib.Core.Path.{_≡_}
 use lib.ListN.{drop}
-use Rattle.executive.specs.Rehearsals.{lastOffset}
+use Rattle.runs.specs.Rehearsals.{lastOffset}
 use Rattle.executive.proofs.rehearsal.last_offset.Given as given
 
 abbrev pub Inv-loop-line : given.InvT-loop-line

@@ -3,7 +3,7 @@ use mathlib.Core.Path.{_≡_}
 use native.Mathlib.Omega.{arith}
 use lib.ListN.{drop}
 use Rattle.std.proofs.shelf.Lists.{at-drop-more, at-drop-all}
-use Rattle.executive.specs.Rehearsals.{loadOf}
+use Rattle.runs.specs.Rehearsals.{loadOf}
 use Rattle.executive.proofs.rehearsal.load.Needs as need
 
 pub share-sum-requires : need.share-sum-requires

@@ -1,7 +1,7 @@
 use Prim.Native.Nat.{_≤_, _+_, _*_}
 use mathlib.Core.Path.{_≡_}
 use lib.ListN.{drop}
-use Rattle.executive.specs.Rehearsals.{loadOf}
+use Rattle.runs.specs.Rehearsals.{loadOf}
 use Rattle.executive.proofs.rehearsal.load.Given as given
 
 abbrev pub Inv-loop-line : given.InvT-loop-line

@@ -1,33 +1,28 @@
 -- Under a lawful ranking the line that `firstOf` finds goes ahead of every other pending line.
-use Prim.Native.Nat.{ℕ, suc, _+_, _<_, _≤_}
+use Prim.Native.Nat.{ℕ, suc, _+_, _<_, _≤_, _^_}
 use mathlib.Core.Path.{_≡_, refl, sym, ap, subst, _∙_}
-use mathlib.Core.Bool.{Bool, true, false, not, _&&_}
+use mathlib.Core.Bool.{Bool, true, false, cond, not, _&&_}
 use mathlib.Core.List.{List, [], _∷_, _++_, append-assoc, append-nil}
 use mathlib.Core.Logic.{_⊎_, inl, inr, ⊎-elim}
 use native.Mathlib.Numerals.{one-add}
 use native.Mathlib.Omega.{arith}
-use lib.ListN.{length, getD, drop}
+use lib.ListN.{length, getD}
 use Rattle.std.specs.declared.option.Option.{Option}
 use Rattle.std.specs.declared.option.Option.the-variants.{Some, None}
 use Rattle.std.specs.shelf.Lists.{All, Has}
 use Rattle.std.proofs.shelf.Tests.{and-from, and-left, and-right, both-ways, cases-bool, cond-true, cond-false}
-use Rattle.std.proofs.shelf.Lists.{at-drop-more}
 use Rattle.std.proofs.shelf.Elements.{all-getD, all-push, all-weaker, has-push, has-append-left}
 use Rattle.model.specs.declared.job.Job.{Job}
 use Rattle.model.specs.Rankings.{Lawful, Sound}
-use Rattle.executive.specs.declared.task.Task.{Task}
-use Rattle.executive.specs.Tasks.{pending, jobOf, blankTask}
-use Rattle.executive.specs.Steps.{better, firstFrom, firstOf, numberOf, Numbered, Timed, WellFormed, ToFirst}
-use Rattle.executive.proofs.Serving.{numbered-at}
+use Rattle.runs.specs.declared.task.Task.{Task}
+use Rattle.runs.specs.Tasks.{pending, jobOf}
+use Rattle.runs.specs.Steps.{better, firstFrom, firstOf, numberOf, Numbered, Timed, WellFormed, First, ToFirst}
+use Rattle.runs.proofs.Serving.{numbered-at}
 
 -- the jobs of well-formed lines are those that the laws of a ranking speak of
 sounds : (n : ℕ) (xs : List Task) → 0 < n → n + length xs ≤ 25 → Numbered n xs → All Timed xs → All (λ x. Sound (jobOf x)) xs
 sounds n [] p q num timed = tt
 sounds n (x ∷ xs) p q num timed = ((omega (arith, num .0), omega (arith, num .0), timed .0 .1), sounds (n + 1) xs (omega arith) (omega arith) (num .1) (timed .1))
-
--- the search for the first, one line on
-pub first-on : (ahead : Job → Job → Bool) (xs : List Task) (i : ℕ) (best next all : Option Task) → i < length xs → next ≡ better ahead best (getD xs i blankTask) → firstFrom ahead best (drop i xs) ≡ all → firstFrom ahead next (drop (i + 1) xs) ≡ all
-first-on ahead xs i best next all in′ e so-far = ap (λ b. firstFrom ahead b (drop (i + 1) xs)) e ∙ sym (at-drop-more (firstFrom ahead best) xs i blankTask in′) ∙ so-far
 
 module _ (ahead : Job → Job → Bool) (lawful : Lawful ahead) where
   -- x is b itself, or another line that b goes ahead of if it is pending

@@ -1,15 +1,18 @@
 -- What one instant leaves as it is in a line, and in a well-formed list of lines.
-use Prim.Native.Nat.{ℕ, _+_, _<_, _^_}
-use mathlib.Core.Path.{_≡_, refl, sym, subst, _∙_}
-use mathlib.Core.Bool.{Bool}
+use Prim.Native.Nat.{ℕ, _+_, _-_, _<_, _≤_, _^_}
+use mathlib.Core.Path.{_≡_, refl, sym, ap, subst, _∙_}
+use mathlib.Core.Bool.{Bool, true, false, cond}
 use mathlib.Core.List.{List, [], _∷_, map}
+use native.Mathlib.Omega.{arith}
 use lib.Dec.{eqb}
+use lib.ListN.{length}
+use Rattle.std.specs.shelf.Lists.{All}
 use Rattle.std.proofs.shelf.Lists.{length-map}
 use Rattle.std.proofs.shelf.Elements.{all-map, all-weaker}
 use Rattle.std.proofs.shelf.Tests.{cond-both}
-use Rattle.executive.specs.Tasks.{due, struck, arrives, admitted, arrived, served}
-use Rattle.executive.specs.Steps.{firstOf, numberOf, arrivedAll, stepped, Numbered, Timed, WellFormed}
-use Rattle.executive.specs.declared.task.Task.{Task}
+use Rattle.runs.specs.Tasks.{due, struck, arrives, admitted, arrived, served, withJob}
+use Rattle.runs.specs.Steps.{firstOf, numberOf, arrivedAll, stepped, Numbered, Timed, WellFormed}
+use Rattle.runs.specs.declared.task.Task.{Task}
 use Rattle.model.specs.declared.job.Job.{Job}
 
 -- the same line, its job apart, released no later than before or at t
@@ -34,6 +37,9 @@ arrived-alike t x = alike-both t x (struck t x) (arrived t x) (struck-alike t x)
 pub arrived-number : (t : ℕ) (x : Task) → arrived t x .number ≡ x .number
 arrived-number t x = arrived-alike t x .0
 
+pub arrived-line : (t : ℕ) (x : Task) → arrived t x .line ≡ x .line
+arrived-line t x = arrived-alike t x .1
+
 alike-timed : (t : ℕ) (x y : Task) → Alike t x y → t < 10 ^ 12 → Timed x → Timed y
 alike-timed t x y a s h = (subst (λ l. 0 < l .period) (sym (a .1)) (h .0), a .2 (h .1) s)
 
@@ -52,8 +58,8 @@ module _ (ahead : Job → Job → Bool) (t : ℕ) (xs : List Task) where
   abbrev winner : ℕ
   winner = numberOf (firstOf ahead (arrivedAll t xs))
 
-  pub stepped-well-formed : (ys : List Task) → ys ≡ stepped ahead t xs → t < 10 ^ 12 → WellFormed xs → WellFormed ys
-  stepped-well-formed ys e soon h = subst WellFormed (sym e) (map-well-formed t soon (served winner) (served-alike t winner) (arrivedAll t xs) (arrived-well-formed t xs soon h))
+  pub stepped-well-formed : t < 10 ^ 12 → WellFormed xs → WellFormed (stepped ahead t xs)
+  stepped-well-formed soon h = map-well-formed t soon (served winner) (served-alike t winner) (arrivedAll t xs) (arrived-well-formed t xs soon h)
 
   pub stepped-numbered : (n : ℕ) → Numbered n xs → Numbered n (stepped ahead t xs)
   stepped-numbered n h = map-numbered (served winner) (λ x. served-alike t winner x .0) n (arrivedAll t xs) (map-numbered (arrived t) (arrived-number t) n xs h)

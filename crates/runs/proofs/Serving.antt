@@ -1,15 +1,15 @@
 -- Lines that carry their numbers: one number stands at one place, so that one line alone is served.
 use Prim.Native.Nat.{ℕ, zero, suc, _+_, _<_}
-use mathlib.Core.Path.{_≡_, refl, sym, ap, _∙_}
+use mathlib.Core.Path.{_≡_, refl, sym, ap, subst, _∙_}
 use mathlib.Core.List.{List, [], _∷_, map}
 use mathlib.Core.Logic.{⊎-elim}
 use native.Mathlib.Omega.{arith}
 use lib.ListN.{length, getD, set}
 use Rattle.std.proofs.shelf.Lists.{same-lists, length-map, length-set, getD-map, getD-default, getD-set-same, getD-set-other}
 use Rattle.std.proofs.shelf.Tests.{cases-eq, cond-false, ne-eqb}
-use Rattle.executive.specs.Tasks.{served}
-use Rattle.executive.specs.Steps.{Numbered}
-use Rattle.executive.specs.declared.task.Task.{Task}
+use Rattle.runs.specs.Tasks.{served}
+use Rattle.runs.specs.Steps.{Numbered}
+use Rattle.runs.specs.declared.task.Task.{Task}
 
 -- the number of the line at place i
 pub numbered-at : (n : ℕ) (xs : List Task) (i : ℕ) (d : Task) → i < length xs → Numbered n xs → getD xs i d .number ≡ n + i

@@ -14,10 +14,10 @@ use Rattle.std.proofs.shelf.Lists.{take-more}
 use Rattle.std.proofs.shelf.Elements.{all-getD}
 use Rattle.std.proofs.shelf.Sums.{sumBy-cons}
 use Rattle.std.proofs.shelf.Tests.{both-ways, cases-bool, cases-order, cond-true, cond-false, cond-both, eqb-true, ne-eqb}
-use Rattle.executive.specs.Tasks.{due, blankTask}
-use Rattle.executive.specs.RehearsalRules.{LowestStruck}
-use Rattle.executive.specs.Steps.{lowestDue, Numbered}
-use Rattle.executive.specs.declared.task.Task.{Task}
+use Rattle.runs.specs.Tasks.{due, blankTask}
+use Rattle.runs.specs.RehearsalRules.{LowestStruck}
+use Rattle.runs.specs.Steps.{lowestDue, Numbered}
+use Rattle.runs.specs.declared.task.Task.{Task}
 
 -- the first of one line and some others, of which c are struck out
 one-before : (b : Bool) (y l m z c : ℕ) → m ≡ cond (eqb c 0) z l → cond b y m ≡ cond (eqb (cond b 1 0 + c) 0) z (cond b y l)

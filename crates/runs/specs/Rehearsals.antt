@@ -3,7 +3,7 @@
 --   lastOffset        the largest offset, 0 without lines
 --   missAt            a step that strikes a job out misses the lowest such line
 --   runUnits          some units from an instant on, up to the first job that is struck out
---   sameLeft, settled the same units left on every line of two lists
+--   sameLeft          the same units left on every line of two lists
 --   andThen           go on with what was reached, or keep the fault
 --   betweenMarks      run to the first mark and on to the second, and compare the units left
 --   rehearsalOf       what the rehearsal comes to
@@ -17,9 +17,9 @@ use Rattle.model.specs.declared.fault.Fault.{Fault}
 use Rattle.model.specs.declared.fault.Fault.the-variants.{Overload, Missed, Unsettled}
 use Rattle.model.specs.declared.job.Job.{Job}
 use Rattle.model.specs.declared.line.Line.{Line}
-use Rattle.executive.specs.declared.task.Task.{Task}
-use Rattle.executive.specs.Tasks.{newTasks}
-use Rattle.executive.specs.Steps.{stepped, lowestDue}
+use Rattle.runs.specs.declared.task.Task.{Task}
+use Rattle.runs.specs.Tasks.{newTasks}
+use Rattle.runs.specs.Steps.{stepped, lowestDue}
 
 abbrev pub shareOf : ℕ → Line → ℕ
 shareOf h l = l .length * h / l .period

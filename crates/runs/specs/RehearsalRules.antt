@@ -19,10 +19,10 @@ use Rattle.model.specs.declared.fault.Fault.{Fault}
 use Rattle.model.specs.declared.fault.Fault.the-variants.{Overload, Missed, Unsettled}
 use Rattle.model.specs.declared.job.Job.{Job}
 use Rattle.model.specs.declared.line.Line.{Line}
-use Rattle.executive.specs.declared.task.Task.{Task}
-use Rattle.executive.specs.Tasks.{due, newTasks}
-use Rattle.executive.specs.Steps.{stepped}
-use Rattle.executive.specs.Rehearsals.{loadOf, lastOffset}
+use Rattle.runs.specs.declared.task.Task.{Task}
+use Rattle.runs.specs.Tasks.{due, newTasks}
+use Rattle.runs.specs.Steps.{stepped}
+use Rattle.runs.specs.Rehearsals.{loadOf, lastOffset}
 
 abbrev pub stateAt : (Job → Job → Bool) → List Line → ℕ → List Task
 stateAt ahead ls zero = newTasks 1 ls

@@ -1,22 +1,22 @@
 -- Lines before their first instant, by their places.
-use Prim.Native.Nat.{ℕ, zero, suc, _+_, _<_, _≤_}
-use mathlib.Core.Path.{_≡_, refl, sym, ap, _∙_}
+use Prim.Native.Nat.{ℕ, zero, suc, _+_, _<_, _≤_, _^_}
+use mathlib.Core.Path.{_≡_, refl, sym, ap, subst, _∙_}
 use mathlib.Core.List.{List, [], _∷_}
 use native.Mathlib.Omega.{arith}
 use lib.ListN.{length, getD}
 use Rattle.std.specs.shelf.Lists.{All}
 use Rattle.std.proofs.shelf.Lists.{same-lists, getD-default}
 use Rattle.model.specs.declared.line.Line.{Line}
-use Rattle.model.specs.Ranges.{blank, AllRanged}
-use Rattle.executive.specs.declared.task.Task.{Task}
-use Rattle.executive.specs.Tasks.{newTask, newTasks, blankTask}
-use Rattle.executive.specs.Steps.{Numbered, Timed, WellFormed}
+use Rattle.model.specs.Ranges.{blank, Ranged, AllRanged}
+use Rattle.runs.specs.declared.task.Task.{Task}
+use Rattle.runs.specs.Tasks.{newTask, newTasks, blankTask}
+use Rattle.runs.specs.Steps.{Numbered, Timed, WellFormed}
 
-length-new-tasks : (n : ℕ) (ls : List Line) → length (newTasks n ls) ≡ length ls
+pub length-new-tasks : (n : ℕ) (ls : List Line) → length (newTasks n ls) ≡ length ls
 length-new-tasks n [] = refl
 length-new-tasks n (l ∷ ls) = ap suc (length-new-tasks (n + 1) ls)
 
-new-tasks-at : (n : ℕ) (ls : List Line) (k : ℕ) (d : Task) (e : Line) → k < length ls → getD (newTasks n ls) k d ≡ newTask (n + k) (getD ls k e)
+pub new-tasks-at : (n : ℕ) (ls : List Line) (k : ℕ) (d : Task) (e : Line) → k < length ls → getD (newTasks n ls) k d ≡ newTask (n + k) (getD ls k e)
 new-tasks-at n [] k d e h = absurd (omega arith)
 new-tasks-at n (l ∷ ls) zero d e h = ap (λ m. newTask m l) (omega arith)
 new-tasks-at n (l ∷ ls) (suc k) d e h = new-tasks-at (n + 1) ls k d e (omega arith) ∙ ap (λ m. newTask m (getD ls k e)) (omega arith)

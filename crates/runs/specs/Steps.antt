@@ -1,14 +1,10 @@
 -- One unit of time: who gets it, and what all lines hold after it.
---   better, firstFrom, firstOf   the line whose pending job goes ahead of all other pending jobs
---   numberOf    its number, or 0
---   arrivedAll  all lines after what comes due and what is released at an instant
+--   firstOf     the line whose pending job goes ahead of all other pending jobs
 --   stepped     all lines after the unit at an instant
 --   lowestDue   the lowest line with a job that is struck out at an instant, or 0
---   reportFor, reportOf   what a step replies
---   taskAt      the line at a place, if a place is given
---   Within      that place is one of the list's
+--   reportOf    what a step replies
 --   Numbered    lines carry their numbers, counted from a number on
---   Timed, WellFormed   at most 24 lines, numbered from 1, with periods, released before 10^12
+--   WellFormed  at most 24 lines, numbered from 1, with periods, released before 10^12
 --   First       a line whose pending job goes ahead of every other pending job
 --   ToFirst     the unit goes to that line, or to none if no line is pending
 use Prim.Native.Nat.{ℕ, zero, suc, _+_, _<_, _≤_, _^_}
@@ -21,9 +17,9 @@ use Rattle.std.specs.shelf.Lists.{countBy, All}
 use Rattle.std.specs.declared.option.Option.{Option}
 use Rattle.std.specs.declared.option.Option.the-variants.{Some, None}
 use Rattle.model.specs.declared.job.Job.{Job}
-use Rattle.executive.specs.declared.task.Task.{Task}
-use Rattle.executive.specs.declared.task.StepReport.{StepReport}
-use Rattle.executive.specs.Tasks.{pending, due, arrived, jobOf, served, blankTask}
+use Rattle.runs.specs.declared.task.Task.{Task}
+use Rattle.runs.specs.declared.call.StepReport.{StepReport}
+use Rattle.runs.specs.Tasks.{pending, due, arrived, jobOf, served}
 
 -- the better of the best line so far and one more
 abbrev pub better : (Job → Job → Bool) → Option Task → Task → Option Task
@@ -59,14 +55,6 @@ reportFor (Some x) n = record { line = x .number; began = eqb (x .left) (x .line
 
 abbrev pub reportOf : (Job → Job → Bool) → ℕ → List Task → StepReport
 reportOf ahead t xs = reportFor (firstOf ahead (arrivedAll t xs)) (countBy (due t) xs)
-
-abbrev pub taskAt : List Task → Option ℕ → Option Task
-taskAt xs None = None
-taskAt xs (Some i) = Some (getD xs i blankTask)
-
-abbrev pub Within : List Task → Option ℕ → Type 0
-Within xs None = Unit {0}
-Within xs (Some i) = i < length xs
 
 abbrev pub Numbered : ℕ → List Task → Type 0
 Numbered n [] = Unit {0}

@@ -1,27 +1,47 @@
 -- The rehearsal keeps its rules, and they permit no other result.
 use Prim.Native.Nat.{ℕ, zero, suc, _+_, _<_, _≤_}
 use mathlib.Core.Path.{_≡_, refl, sym, ap, subst, _∙_}
-use mathlib.Core.Bool.{Bool, true, false}
-use mathlib.Core.List.{List}
+use mathlib.Core.Bool.{Bool, true, false, cond, _&&_}
+use mathlib.Core.List.{List, [], _∷_}
 use mathlib.Core.Logic.{_⊎_, inl, inr, ⊎-elim}
 use native.Mathlib.Omega.{arith}
 use lib.Dec.{eqb, ltb}
 use Rattle.std.specs.declared.result.Result.{Result}
 use Rattle.std.specs.declared.result.Result.the-variants.{Ok, Err}
-use Rattle.std.proofs.shelf.Tests.{cases-lt, cases-eq, cases-bool, cases-order, cond-true, cond-false, both-ways, eq-eqb, ne-eqb, lt-ltb, le-ltb}
+use Rattle.std.specs.shelf.Lists.{All}
+use Rattle.std.proofs.shelf.Tests.{cases-lt, cases-eq, cases-bool, cases-order, cond-true, cond-false, both-ways, and-parts, and-from, eqb-true, eq-eqb, ne-eqb, lt-ltb, le-ltb}
 use Rattle.model.specs.declared.fault.Fault.{Fault}
-use Rattle.model.specs.declared.fault.Fault.the-variants.{Missed, Unsettled}
+use Rattle.model.specs.declared.fault.Fault.the-variants.{Overload, Missed, Unsettled}
 use Rattle.model.specs.declared.job.Job.{Job}
 use Rattle.model.specs.declared.line.Line.{Line}
-use Rattle.executive.specs.declared.task.Task.{Task}
-use Rattle.executive.specs.Tasks.{newTasks}
-use Rattle.executive.specs.Steps.{Numbered, lowestDue}
-use Rattle.executive.specs.Rehearsals.{loadOf, runUnits, sameLeft, settled, andThen, betweenMarks, rehearsalOf}
-use Rattle.executive.specs.RehearsalRules.{OnlyRehearsed, stateAt, NoneStruckBelow, LowestStruck, firstMark, secondMark, Rehearsed, passed, overload, missed, unsettled}
-use Rattle.executive.proofs.Keeps.{stepped-numbered}
-use Rattle.executive.proofs.Lowest.{lowest-zero, lowest-struck, lowest-struck-once, struck-not-clear}
-use Rattle.executive.proofs.NewTasks.{new-numbered}
-use Rattle.executive.proofs.SameLeft.{same-units, same-left}
+use Rattle.runs.specs.declared.task.Task.{Task}
+use Rattle.runs.specs.Tasks.{due, newTasks}
+use Rattle.runs.specs.Steps.{Numbered, stepped, lowestDue}
+use Rattle.runs.specs.Rehearsals.{loadOf, runUnits, sameLeft, settled, andThen, betweenMarks, rehearsalOf}
+use Rattle.runs.specs.RehearsalRules.{OnlyRehearsed, stateAt, NoneStruckBelow, LowestStruck, unitsLeft, firstMark, secondMark, SameAtMarks, Rehearsed, passed, overload, missed, unsettled}
+use Rattle.runs.proofs.Keeps.{stepped-numbered}
+use Rattle.runs.proofs.Lowest.{lowest-zero, lowest-struck, lowest-struck-once, struck-not-clear}
+use Rattle.runs.proofs.NewTasks.{new-numbered}
+
+-- the comparison at the marks, in both directions
+same-units : (xs ys : List Task) → sameLeft xs ys ≡ true → unitsLeft xs ≡ unitsLeft ys
+same-units [] [] e = refl
+same-units [] (y ∷ ys) e = absurd (both-ways _ refl e)
+same-units (x ∷ xs) [] e = absurd (both-ways _ refl e)
+same-units (x ∷ xs) (y ∷ ys) e =
+    let parts = and-parts (eqb (x .left) (y .left)) (sameLeft xs ys) e in
+    let head = eqb-true (x .left) (y .left) (parts .0) in
+    let tail = same-units xs ys (parts .1) in
+    cc
+
+same-left : (xs ys : List Task) → unitsLeft xs ≡ unitsLeft ys → sameLeft xs ys ≡ true
+same-left [] [] e = refl
+same-left [] (y ∷ ys) e = let z : _≡_ {A = ℕ} 0 1 = cc in absurd (omega arith)
+same-left (x ∷ xs) [] e = let z : _≡_ {A = ℕ} 0 1 = cc in absurd (omega arith)
+same-left (x ∷ xs) (y ∷ ys) e =
+    let head : x .left ≡ y .left = cc in
+    let tail : unitsLeft xs ≡ unitsLeft ys = cc in
+    and-from (eqb (x .left) (y .left)) (sameLeft xs ys) (eq-eqb _ _ head) (same-left xs ys tail)
 
 module _ (ahead : Job → Job → Bool) (ls : List Line) where
   state-numbered : (t : ℕ) → Numbered 1 (stateAt ahead ls t)
