@@ -3,14 +3,15 @@
 
 ghost use Prim.Native.Nat.{ℕ, _+_, _<_, _≤_, _^_};
 ghost use mathlib.Core.Path.{_≡_};
-ghost use mathlib.Core.Bool.{cond};
+ghost use mathlib.Core.Bool.{Bool, true, cond, _&&_};
 ghost use lib.Dec.{eqb};
-ghost use lib.ListN.{length, getD};
-ghost use Rattle.std.specs.declared.option.Option.the-variants.{Some};
+ghost use lib.ListN.{length, getD, drop};
+ghost use Rattle.std.specs.declared.option.Option.the-variants.{Some, None};
 ghost use Rattle.std.specs.shelf.Lists.{countBy};
-ghost use Rattle.runs.specs.Tasks.{due, given};
+ghost use Rattle.model.specs.declared.job.Job.{Job};
+ghost use Rattle.runs.specs.Tasks.{due, given, jobOf, pending};
 ghost use Rattle.executive.specs.Slots.{tasksOf, blankSlot, taskAt, Within, AllKept};
-ghost use Rattle.runs.specs.Steps.{better as betterOf, firstOf, arrivedAll, stepped as steppedAll, lowestDue, reportFor, reportOf, ToFirst};
+ghost use Rattle.runs.specs.Steps.{firstFrom, firstOf, arrivedAll, stepped as steppedAll, lowestDue, reportFor, reportOf, ToFirst};
 use runs::call::StepReport;
 use crate::slot::Slot;
 use crate::task::give;
@@ -65,25 +66,26 @@ pub(crate) fn arrive_all(slots: &mut [Slot], t: u64) -> Struck
     struck
 }
 
-// The better of the best place so far and the place i.
-fn better<R: Ranking>(slots: &[Slot], ranking: &R, best: Option<usize>, i: usize) -> Option<usize>
-    requires { ⌜ i < length (now slots) ⌝ ∗ ⌜ Within (now slots) best ⌝ }
-    ensures value { λ r. ⌜ taskAt (now (slots .entry)) r ≡ betterOf (ahead (now (ranking .entry))) (taskAt (now (slots .entry)) best) (getD (now (slots .entry)) i blankSlot .task) ⌝ }
-    ensures within { λ r. ⌜ Within (now (slots .entry)) r ⌝ }
+// The first place with a pending job, or the length: no line before it matters to any ranking.
+fn first_pending(slots: &[Slot]) -> usize
+    ensures within { λ r. ⌜ r ≤ length (now (slots .entry)) ⌝ }
+    ensures found { λ r. ⌜ (r < length (now (slots .entry)) → pending (getD (now (slots .entry)) r blankSlot .task) ≡ true) ⌝ }
+    ensures before { λ r. ⌜ ((ahead : Job → Job → Bool) → firstFrom ahead None (drop r (tasksOf (now (slots .entry)))) ≡ firstOf ahead (tasksOf (now (slots .entry)))) ⌝ }
 {
-    if !is_pending(&slots[i].task) {
-        return best;
-    }
-    match best {
-        Some(b) => {
-            if ranking.goes_ahead(&job(&slots[i].task), &job(&slots[b].task)) {
-                Some(i)
-            } else {
-                best
-            }
+    for i in 0..slots.len() {
+        if is_pending(&slots[i].task) {
+            return i;
         }
-        None => Some(i),
     }
+    slots.len()
+}
+
+// The job at place i is pending and goes ahead of that at place `best`.
+fn overtakes<R: Ranking>(slots: &[Slot], ranking: &R, i: usize, best: usize) -> bool
+    requires { ⌜ i < length (now slots) ⌝ ∗ ⌜ best < length (now slots) ⌝ }
+    ensures { λ r. ⌜ r ≡ (pending (getD (now (slots .entry)) i blankSlot .task) && ahead (now (ranking .entry)) (jobOf (getD (now (slots .entry)) i blankSlot .task)) (jobOf (getD (now (slots .entry)) best blankSlot .task))) ⌝ }
+{
+    is_pending(&slots[i].task) && ranking.goes_ahead(&job(&slots[i].task), &job(&slots[best].task))
 }
 
 // The place of the pending job that goes first.
@@ -91,11 +93,17 @@ pub(crate) fn first<R: Ranking>(slots: &[Slot], ranking: &R) -> Option<usize>
     ensures value { λ r. ⌜ taskAt (now (slots .entry)) r ≡ firstOf (ahead (now (ranking .entry))) (tasksOf (now (slots .entry))) ⌝ }
     ensures within { λ r. ⌜ Within (now (slots .entry)) r ⌝ }
 {
-    let mut best = None;
-    for i in 0..slots.len() {
-        best = better(slots, ranking, best, i);
+    let start = first_pending(slots);
+    if start == slots.len() {
+        return None;
     }
-    best
+    let mut best = start;
+    for i in start + 1..slots.len() {
+        if overtakes(slots, ranking, i, best) {
+            best = i;
+        }
+    }
+    Some(best)
 }
 
 // The unit goes to a pending task; `struck` is how many jobs the same step struck out.
