@@ -1,4 +1,5 @@
 pub mod Options
+pub mod ByPlace
 pub mod LeastDeadline
 pub mod Tight
 pub mod Multiples

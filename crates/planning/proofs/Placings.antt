@@ -15,6 +15,7 @@ use Rattle.model.specs.Ranges.{isRegular, blank, Ranged}
 use Rattle.model.specs.declared.line.Line.{Line}
 use Rattle.windows.specs.Windows.{Meet, Periodic, apartLines, at}
 use Rattle.windows.proofs.Rule.{apart-means}
+use Rattle.planning.proofs.ByPlace.{by-place}
 use Rattle.planning.proofs.Clear.{clear-push, clear-pushed}
 use Rattle.planning.proofs.Search.{Fits, Good, Before, found, nothing}
 use Rattle.planning.proofs.ShortPairs.{never-apart}
@@ -26,10 +27,6 @@ periodic l r = (r .1, omega (arith, r .1, r .2, r .3))
 -- the line of a placing has the figures of the sheet's
 pub placed-periodic : (l m : Line) → Ranged l → m ≡ at l (m .offset) → Periodic m
 placed-periodic l m r e = subst Periodic (sym e) (periodic l r)
-
-by-place : (P : ℕ → Type 0) → P 0 → ((i : ℕ) → P (suc i)) → (i : ℕ) → P i
-by-place P first rest zero = first
-by-place P first rest (suc i) = rest i
 
 pub tail : (l m : Line) (ls ms : List Line) → Placing (l ∷ ls) (m ∷ ms) → Placing ls ms
 tail l m ls ms h = record {

@@ -15,22 +15,25 @@ use Rattle.std.specs.declared.option.Option.the-variants.{Some, None}
 use Rattle.model.specs.declared.line.Line.{Line}
 use Rattle.windows.specs.Euclid.{lcmOf}
 
+-- The least common multiple of h and all periods.
 abbrev pub hyperFrom : ℕ → List Line → ℕ
 hyperFrom h [] = h
 hyperFrom h (l ∷ ls) = hyperFrom (lcmOf h (l .period)) ls
 
+-- The least common multiple of all periods.
 abbrev pub hyperperiod : List Line → ℕ
 hyperperiod ls = hyperFrom 1 ls
 
+-- A plan's hyperperiod is at most a million.
 abbrev pub limit : ℕ
 limit = 1000000
 
--- lines are counted from n, and h is the least common multiple so far
+-- Lines are counted from n, and h is the least common multiple so far.
 abbrev pub passesAt : ℕ → ℕ → List Line → Option ℕ
 passesAt n h [] = None
 passesAt n h (l ∷ ls) = cond (ltb limit (lcmOf h (l .period))) (Some n) (passesAt (n + 1) (lcmOf h (l .period)) ls)
 
--- n is the first number of lines whose least common multiple passes the limit
+-- The periods of the first n lines pass the limit, and those of the first n − 1 do not.
 pub record PassesFirst (ls : List Line) (n : ℕ) : Type 0 where
   pub place : (0 < n) × (n ≤ length ls)
   pub before : hyperperiod (take (n - 1) ls) ≤ limit

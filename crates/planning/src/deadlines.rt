@@ -4,7 +4,8 @@ ghost use Prim.Native.Nat.{_≤_};
 ghost use mathlib.Core.Path.{_≡_};
 ghost use lib.Dec.{ltb};
 ghost use lib.ListN.{length};
-ghost use Rattle.planning.specs.Deadlines.{minWith, leastOrdinary, changed, withDeadlines, tightAt};
+ghost use Rattle.std.specs.Options.{Cases as BySome};
+ghost use Rattle.planning.specs.Deadlines.{minWith, leastOrdinary, IsLeastOrdinary, NoneOrdinary, changed, withDeadlines, tightAt};
 use crate::regular::is_regular;
 use model::line::Line;
 use model::policy::Policy;
@@ -21,7 +22,8 @@ fn smaller(deadline: u32, least: Option<u32>) -> u32
 
 // The least deadline of the ordinary lines.
 fn least_ordinary(lines: &[Line]) -> Option<u32>
-    ensures { λ r. ⌜ r ≡ leastOrdinary (now (lines .entry)) ⌝ }
+    ensures value { λ r. ⌜ r ≡ leastOrdinary (now (lines .entry)) ⌝ }
+    ensures least { λ r. ⌜ BySome r (NoneOrdinary (now (lines .entry))) (λ m. IsLeastOrdinary (now (lines .entry)) m) ⌝ }
 {
     let mut least = None;
     for line in lines {

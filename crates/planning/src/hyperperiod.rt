@@ -13,7 +13,7 @@ ghost use Rattle.std.specs.shelf.Lists.{All};
 ghost use Rattle.model.specs.declared.fault.Fault.the-variants.{HyperperiodTooLong};
 ghost use Rattle.windows.specs.Euclid.{lcmOf};
 ghost use Rattle.planning.specs.Hyperperiods.{hyperperiod as hyperperiodOf, passesAt, limit, IsHyperperiod, PassesFirst};
-ghost use Rattle.planning.specs.Plans.{refuse};
+ghost use Rattle.planning.specs.Plans.{refuse, AllPlanned};
 use model::fault::Fault;
 use model::line::Line;
 use windows::euclid::lcm;
@@ -48,4 +48,16 @@ pub(crate) fn hyperperiod(lines: &[Line]) -> Result<u32, Fault>
         h = next;
     }
     Ok(h)
+}
+
+// The hyperperiod of lines that are known to be a plan's.
+pub(crate) fn hyperperiod_of_plan(lines: &[Line]) -> u32
+    requires few { ⌜ length (now lines) ≤ 24 ⌝ }
+    requires planned { ⌜ AllPlanned (now lines) ⌝ }
+    requires short { ⌜ hyperperiodOf (now lines) ≤ limit ⌝ }
+    ensures value { λ r. ⌜ r ≡ hyperperiodOf (now (lines .entry)) ⌝ }
+    ensures range { λ r. ⌜ (1 ≤ r) × (r ≤ 1000000) ⌝ }
+    ensures least { λ r. ⌜ IsHyperperiod (now (lines .entry)) r ⌝ }
+{
+    hyperperiod(lines).unwrap()
 }

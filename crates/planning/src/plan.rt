@@ -9,11 +9,12 @@ ghost use Rattle.model.specs.Ranges.{regulars};
 ghost use Rattle.model.specs.declared.fault.Fault.the-variants.{NoMemory};
 ghost use Rattle.model.specs.declared.policy.Policy.the-variants.{Dm};
 ghost use Rattle.windows.specs.Windows.{AllApart};
-ghost use Rattle.planning.specs.Hyperperiods.{hyperperiod};
+ghost use Rattle.planning.specs.Hyperperiods.{hyperperiod, IsHyperperiod};
 ghost use Rattle.planning.specs.Plans.{AllPlanned};
 
 mod filling;
 
+use crate::hyperperiod::hyperperiod_of_plan;
 use model::fault::Fault;
 use model::fault::FaultFromAllocError;
 use model::line::Line;
@@ -57,5 +58,14 @@ impl Plan {
         ensures { λ r. ⌜ now r ≡ vec-items (now (self .entry) .lines) ⌝ }
     {
         self.lines.as_slice()
+    }
+
+    // From 1 to 1,000,000.
+    pub fn hyperperiod(&self) -> u32
+        ensures value { λ r. ⌜ r ≡ hyperperiod (vec-items (now (self .entry) .lines)) ⌝ }
+        ensures range { λ r. ⌜ (1 ≤ r) × (r ≤ 1000000) ⌝ }
+        ensures least { λ r. ⌜ IsHyperperiod (vec-items (now (self .entry) .lines)) r ⌝ }
+    {
+        hyperperiod_of_plan(self.lines.as_slice())
     }
 }

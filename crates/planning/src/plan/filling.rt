@@ -8,9 +8,8 @@ ghost use Rattle.std.specs.Results.{Cases};
 ghost use Rattle.std.specs.declared.result.Result.the-variants.{Ok, Err};
 ghost use Rattle.model.specs.Ranges.{AllRanged, regulars};
 ghost use Rattle.model.specs.TaskSets.{taskSet, Filled};
-ghost use Rattle.planning.specs.Hyperperiods.{hyperperiod as hyperperiodOf, limit, IsHyperperiod};
 ghost use Rattle.planning.specs.Places.{planSet};
-ghost use Rattle.planning.specs.Plans.{planOf, AllPlanned, IsPlan, PlacedFirst};
+ghost use Rattle.planning.specs.Plans.{planOf, IsPlan, PlacedFirst};
 use super::Plan;
 use crate::deadlines::set_deadlines;
 use crate::deadlines::tight_line;
@@ -57,23 +56,10 @@ fn plan_lines(lines: &mut [Line], policy: Policy) -> Result<(), Fault>
     requires ranged { ⌜ AllRanged (now lines) ⌝ }
     requires few { ⌜ length (now lines) ≤ 24 ⌝ }
     requires limited { ⌜ regulars (now lines) ≤ 8 ⌝ }
-    ensures value { λ r. ⌜ Cases r (λ _. planOf (taskSet policy (now (lines .entry))) ≡ Ok (taskSet policy (now (lines .exit)))) (λ e. planOf (taskSet policy (now (lines .entry))) ≡ Err e) ⌝ }
-    ensures plan { λ r. ⌜ Cases r (λ _. IsPlan (now (lines .exit))) (λ _. ⊥ → ⊥) ⌝ }
+    ensures made { λ r. ⌜ Cases r (λ _. (planOf (taskSet policy (now (lines .entry))) ≡ Ok (taskSet policy (now (lines .exit)))) × IsPlan (now (lines .exit))) (λ e. planOf (taskSet policy (now (lines .entry))) ≡ Err e) ⌝ }
     ensures offsets { λ r. ⌜ PlacedFirst r policy (now (lines .entry)) (now (lines .exit)) ⌝ }
 {
     plan_steps(lines, policy)
-}
-
-// The hyperperiod of lines that are known to be a plan's.
-fn hyperperiod_of_plan(lines: &[Line]) -> u32
-    requires few { ⌜ length (now lines) ≤ 24 ⌝ }
-    requires planned { ⌜ AllPlanned (now lines) ⌝ }
-    requires short { ⌜ hyperperiodOf (now lines) ≤ limit ⌝ }
-    ensures value { λ r. ⌜ r ≡ hyperperiodOf (now (lines .entry)) ⌝ }
-    ensures range { λ r. ⌜ (1 ≤ r) × (r ≤ 1000000) ⌝ }
-    ensures least { λ r. ⌜ IsHyperperiod (now (lines .entry)) r ⌝ }
-{
-    hyperperiod(lines).unwrap()
 }
 
 impl Plan {
@@ -102,7 +88,7 @@ impl Plan {
         Ok(())
     }
 
-    pub(crate) fn fill(&mut self, policy: Policy, lines: &[Line]) -> Result<(), Fault>
+    fn fill(&mut self, policy: Policy, lines: &[Line]) -> Result<(), Fault>
         requires ranged { ⌜ AllRanged (now lines) ⌝ }
         requires few { ⌜ length (now lines) ≤ 24 ⌝ }
         requires limited { ⌜ regulars (now lines) ≤ 8 ⌝ }
@@ -123,14 +109,5 @@ impl Plan {
         ensures offsets { λ r. ⌜ PlacedFirst r (now (sheet .entry) .policy) (vec-items (now (sheet .entry) .lines)) (vec-items (now (self .exit) .lines)) ⌝ }
     {
         self.fill(sheet.policy(), sheet.lines())
-    }
-
-    // From 1 to 1,000,000.
-    pub fn hyperperiod(&self) -> u32
-        ensures value { λ r. ⌜ r ≡ hyperperiodOf (vec-items (now (self .entry) .lines)) ⌝ }
-        ensures range { λ r. ⌜ (1 ≤ r) × (r ≤ 1000000) ⌝ }
-        ensures least { λ r. ⌜ IsHyperperiod (vec-items (now (self .entry) .lines)) r ⌝ }
-    {
-        hyperperiod_of_plan(self.lines.as_slice())
     }
 }

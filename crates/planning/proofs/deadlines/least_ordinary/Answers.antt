@@ -1,10 +1,11 @@
-use mathlib.Core.Path.{sym, ap, _∙_}
+use mathlib.Core.Path.{_≡_, sym, ap, subst, _∙_}
 use Prim.Native.Nat.{_+_}
 use lib.ListN.{drop}
 use Rattle.std.proofs.shelf.Lists.{at-drop-all}
+use Rattle.std.specs.Options.{Cases}
 use Rattle.std.specs.declared.option.Option.the-variants.{Some}
-use Rattle.planning.specs.Deadlines.{leastOrdinary}
-use Rattle.planning.proofs.LeastDeadline.{joined, joined-none, regular-more, ordinary-more}
+use Rattle.planning.specs.Deadlines.{leastOrdinary, IsLeastOrdinary, NoneOrdinary}
+use Rattle.planning.proofs.LeastDeadline.{joined, joined-none, regular-more, ordinary-more, least-is}
 use Rattle.planning.proofs.deadlines.least_ordinary.Needs as need
 use Rattle.planning.proofs.deadlines.least_ordinary.Needs.{then-not-is-regular, else-not-is-regular}
 
@@ -24,4 +25,6 @@ loop-line-again c =
 pub returns : need.returns
 returns c =
     let ls = c .args .lines .now in
-    sym (joined-none (c .loop-line .least)) ∙ ap (joined (c .loop-line .least)) (sym (at-drop-all leastOrdinary ls (c .loop-line .line-index) (c .loop-line-test .left))) ∙ c .loop-line .inv
+    let value : c .loop-line .least ≡ leastOrdinary ls =
+    sym (joined-none (c .loop-line .least)) ∙ ap (joined (c .loop-line .least)) (sym (at-drop-all leastOrdinary ls (c .loop-line .line-index) (c .loop-line-test .left))) ∙ c .loop-line .inv in
+    record { value = value; least = subst (λ o. Cases o (NoneOrdinary ls) (IsLeastOrdinary ls)) (sym value) (least-is ls) }

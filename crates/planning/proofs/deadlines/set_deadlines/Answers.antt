@@ -23,4 +23,4 @@ returns c =
     let i = c .loop-line .line-index in
     let f = changed (c .args .policy) (c .least-ordinary-least .result) in
     c .loop-line .inv ∙ ap (λ ys. map f (take i xs) ++ ys) (drop-all i xs (c .loop-line-test .left)) ∙ append-nil (map f (take i xs)) ∙ ap (map f) (take-all i xs (c .loop-line-test .left))
-    ∙ ap (λ m. map (changed (c .args .policy) m) xs) (c .least-ordinary-least .ensures)
+    ∙ ap (λ m. map (changed (c .args .policy) m) xs) (c .least-ordinary-least .ensures .value)

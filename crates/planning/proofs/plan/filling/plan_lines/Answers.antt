@@ -1,6 +1,6 @@
 use Rattle.std.proofs.shelf.Results.{cases-weaker}
 use Rattle.planning.proofs.Planned.{all-ranged, first-placing, is-plan}
-use Rattle.planning.proofs.Refusals.{want-of-offsets}
+use Rattle.planning.proofs.Refusals.{refused}
 use Rattle.planning.proofs.plan.filling.plan_lines.Needs as need
 
 pub returns : need.returns
@@ -10,7 +10,6 @@ returns c =
     let policy = c .args .policy in
     let made = c .plan-steps .ensures in
     record {
-      value = made;
-      plan = cases-weaker (c .plan-steps .result) made (λ _ m. is-plan policy ls xs (c .pre .ranged) m (c .pre .limited)) (λ _ _ x. x);
-      offsets = cases-weaker (c .plan-steps .result) made (λ _ m. first-placing policy ls xs (c .pre .ranged) m) (λ e m. want-of-offsets policy ls (all-ranged ls (c .pre .ranged)) e m);
+      made = cases-weaker (c .plan-steps .result) made (λ _ m. (m, is-plan policy ls xs (c .pre .ranged) m (c .pre .limited))) (λ _ m. m);
+      offsets = cases-weaker (c .plan-steps .result) made (λ _ m. first-placing policy ls xs (c .pre .ranged) m) (λ e m. refused policy ls (all-ranged ls (c .pre .ranged)) e m);
     }

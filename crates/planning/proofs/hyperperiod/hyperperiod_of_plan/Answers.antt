@@ -6,7 +6,7 @@ use Rattle.planning.specs.Hyperperiods.{hyperperiod, IsHyperperiod}
 use Rattle.planning.specs.Plans.{refuse}
 use Rattle.planning.proofs.Multiples.{within-none, positive, is-hyperperiod}
 use Rattle.planning.proofs.Planned.{planned-periods}
-use Rattle.planning.proofs.plan.filling.hyperperiod_of_plan.Needs as need
+use Rattle.planning.proofs.hyperperiod.hyperperiod_of_plan.Needs as need
 
 pub unwrap-requires : need.unwrap-requires
 unwrap-requires c κs = c .hyperperiod .ensures .within (planned-periods (c .args .lines .now) (c .pre .planned)) .1 (c .pre .short)
