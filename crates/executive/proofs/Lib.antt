@@ -1,5 +1,11 @@
 pub mod Arriving
 pub mod Coming
+pub mod Facts
+pub mod LookUps
+pub mod OneSlot
 pub mod OneStep
+pub mod Outcomes
 pub mod Places
 pub mod Running
+pub mod Standings
+pub mod Takings

@@ -1,1 +1,4 @@
+pub mod Changes
+pub mod Executives
 pub mod Slots
+pub mod Views

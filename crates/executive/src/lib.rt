@@ -1,5 +1,7 @@
-//! A plan under way: one step of the processor, and the rehearsal that is made of such steps.
+//! From a plan to a run: the step of the processor, the calls between steps, and the rehearsal.
 
+mod between;
+pub mod executive;
 pub mod rehearsal;
 pub mod slot;
 mod step;

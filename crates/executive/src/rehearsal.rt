@@ -1,24 +1,23 @@
 //! The rehearsal: a plan's lines run from instant 0 to one and to two hyperperiods after the largest
 //! offset, on slots of its own.
 
-ghost use Prim.Native.Nat.{ℕ, _+_, _*_, _<_, _≤_, _^_};
+ghost use Prim.Native.Nat.{_+_, _*_, _<_, _≤_, _^_};
 ghost use mathlib.Core.Path.{_≡_};
-ghost use lib.ListN.{length, getD};
+ghost use lib.ListN.{length};
 ghost use Rattle.std.specs.Vec.{made};
 ghost use Rattle.std.specs.declared.result.Result.the-variants.{Ok};
 ghost use Rattle.std.specs.Of.Vec.{vec-items};
 ghost use Rattle.planning.specs.Hyperperiods.{hyperperiod};
 ghost use Rattle.model.specs.Ranges.{Ranged, AllRanged};
-ghost use Rattle.runs.specs.Tasks.{newTasks};
 ghost use Rattle.executive.specs.Slots.{tasksOf, AllKept};
 ghost use Rattle.runs.specs.Steps.{stepped};
 ghost use Rattle.runs.specs.RehearsalRules.{OnlyRehearsed};
 ghost use Rattle.runs.specs.Rehearsals.{shareOf, loadOf, lastOffset, missAt, runUnits, sameLeft, andThen, betweenMarks as betweenMarksOf, rehearsalOf};
+use crate::slot::NO_SLOT;
 use crate::slot::Slot;
+use crate::slot::set_up;
 use crate::step::step;
-use crate::task::new_task;
 use model::fault::Fault;
-use model::kind::Kind;
 use model::line::Line;
 use model::ranking::Ranking;
 use planning::plan::Plan;
@@ -95,17 +94,6 @@ fn same_left(first: &[Slot], second: &[Slot]) -> bool
     true
 }
 
-// New slots of the lines, numbered from 1, at instant 0.
-fn set_up(slots: &mut [Slot], lines: &[Line])
-    requires { ⌜ length (now slots) ≡ length (now lines) ⌝ ∗ ⌜ length (now lines) ≤ 24 ⌝ ∗ ⌜ AllRanged (now lines) ⌝ }
-    ensures tasks { λ _. ⌜ tasksOf (now (slots .exit)) ≡ newTasks 1 (now (lines .entry)) ⌝ }
-    ensures kept { λ _. ⌜ AllKept 0 (now (slots .exit)) ⌝ }
-{
-    for i in 0..lines.len() {
-        slots[i] = Slot::new(i as u32 + 1, lines[i], 0);
-    }
-}
-
 // To the first mark, on to the second, and the units left compared; `saved` keeps those at the first.
 fn between_marks<R: Ranking>(
     slots: &mut [Slot],
@@ -127,14 +115,6 @@ fn between_marks<R: Ranking>(
     }
 }
 
-const NO_LINE: Line = Line {
-    kind: Kind::Ordinary,
-    offset: 0,
-    length: 0,
-    deadline: 0,
-    period: 0,
-};
-
 pub(crate) fn rehearse_lines<R: Ranking>(lines: &[Line], ranking: &R, h: u32) -> Result<(), Fault>
     requires { ⌜ AllRanged (now lines) ⌝ ∗ ⌜ length (now lines) ≤ 24 ⌝ ∗ ⌜ h ≤ 1000000 ⌝ }
     ensures value { λ r. ⌜ r ≡ rehearsalOf (ahead (now (ranking .entry))) h (now (lines .entry)) ⌝ }
@@ -144,14 +124,10 @@ pub(crate) fn rehearse_lines<R: Ranking>(lines: &[Line], ranking: &R, h: u32) ->
         return Err(Fault::Overload);
     }
     let n = lines.len();
-    let unused = Slot {
-        task: new_task(0, NO_LINE),
-        next: 0,
-    };
-    let mut slots = [unused; 24];
+    let mut slots = [NO_SLOT; 24];
     let mut saved = slots;
     let slots = &mut slots[..n];
-    set_up(slots, lines);
+    set_up(slots, lines, 0);
     let mark = last_offset(lines) as u64 + h as u64;
     between_marks(slots, &mut saved[..n], ranking, mark, h as u64)
 }

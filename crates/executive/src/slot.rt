@@ -1,15 +1,18 @@
 //! A line under way as the executive keeps it: with its next release at hand, so that no step has to
 //! divide.
 
-ghost use Prim.Native.Nat.{ℕ, _+_, _<_, _≤_, _^_};
+ghost use Prim.Native.Nat.{_+_, _<_, _≤_, _^_};
 ghost use mathlib.Core.Path.{_≡_};
-ghost use Rattle.model.specs.Ranges.{Ranged};
-ghost use Rattle.runs.specs.Tasks.{due, admitted, arrived, newTask};
-ghost use Rattle.executive.specs.Slots.{comingAt, IsComing, Kept};
+ghost use lib.ListN.{length};
+ghost use Rattle.model.specs.Ranges.{Ranged, AllRanged};
+ghost use Rattle.runs.specs.Tasks.{due, admitted, arrived, newTask, newTasks};
+ghost use Rattle.executive.specs.Slots.{comingAt, IsComing, Kept, AllKept, tasksOf};
+use runs::task::Counts;
 use crate::task::admit;
 use crate::task::new_task;
 use crate::task::strike;
 use runs::task::Task;
+use model::kind::Kind;
 use model::line::Line;
 
 // `next` is the line's first release at or after the next step.
@@ -18,6 +21,30 @@ pub struct Slot {
     pub task: Task,
     pub next: u64,
 }
+
+// What stands in a place that no line has.
+pub(crate) const NO_SLOT: Slot = Slot {
+    task: Task {
+        number: 0,
+        line: Line {
+            kind: Kind::Ordinary,
+            offset: 0,
+            length: 0,
+            deadline: 0,
+            period: 0,
+        },
+        release: 0,
+        left: 0,
+        resting: false,
+        counts: Counts {
+            made: 0,
+            ended: 0,
+            missed: 0,
+            aside: 0,
+        },
+    },
+    next: 0,
+};
 
 // The first release at or after `t`.
 fn coming(line: &Line, t: u64) -> u64
@@ -82,5 +109,19 @@ impl Slot {
         let struck = strike(&mut self.task, t);
         self.release_at(t);
         struck
+    }
+}
+
+// The slots of a plan's lines before the step at `start`.
+pub(crate) fn set_up(slots: &mut [Slot], lines: &[Line], start: u64)
+    requires long { ⌜ length (now slots) ≡ length (now lines) ⌝ }
+    requires few { ⌜ length (now lines) ≤ 24 ⌝ }
+    requires ranged { ⌜ AllRanged (now lines) ⌝ }
+    requires early { ⌜ start ≤ 10 ^ 12 ⌝ }
+    ensures tasks { λ _. ⌜ tasksOf (now (slots .exit)) ≡ newTasks 1 (now (lines .entry)) ⌝ }
+    ensures kept { λ _. ⌜ AllKept start (now (slots .exit)) ⌝ }
+{
+    for i in 0..lines.len() {
+        slots[i] = Slot::new(i as u32 + 1, lines[i], start);
     }
 }

@@ -34,3 +34,13 @@ pub enum LastUnit {
     Running { line: u32 },
     Ended { line: u32 },
 }
+
+// What became of a line's jobs: those made are those ended, missed, set aside and pending.
+#[derive(Clone, Copy)]
+pub struct CountsReport {
+    pub made: u64,
+    pub ended: u64,
+    pub missed: u64,
+    pub aside: u64,
+    pub pending: u64,
+}
