@@ -7,5 +7,6 @@ pub mod OneStep
 pub mod Outcomes
 pub mod Places
 pub mod Running
+pub mod SoundPlans
 pub mod Standings
 pub mod Takings

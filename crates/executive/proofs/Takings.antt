@@ -9,6 +9,7 @@ use borrow.Rule.Slice.PartMut.{midOf}
 use lib.ListN.{length, getD, take}
 use Rattle.std.specs.Of.Vec.{vec-items, vec-len}
 use Rattle.std.proofs.shelf.Lists.{length-map, take-at}
+use Rattle.model.specs.Rankings.{Lawful}
 use Rattle.model.specs.declared.job.Job.{Job}
 use Rattle.runs.specs.declared.call.Call.{Call}
 use Rattle.runs.specs.declared.call.Reply.{Reply}
@@ -16,12 +17,14 @@ use Rattle.executive.specs.declared.executive.Executive.{Executive}
 use Rattle.executive.specs.declared.slot.Slot.{Slot}
 use Rattle.runs.specs.Calls.{begun, nextOf}
 use Rattle.executive.specs.Executives.{Standing}
-use Rattle.runs.specs.Histories.{Ran, event}
+use Rattle.runs.specs.Histories.{History, Ran, event}
 use Rattle.executive.specs.Slots.{tasksOf}
 use Rattle.runs.specs.Tasks.{blankTask}
 use Rattle.executive.specs.Views.{Took, viewOf}
 use Rattle.executive.proofs.Facts.{stands}
 use Rattle.runs.proofs.Inductions.{ran-push}
+use Rattle.runs.proofs.Promised.{promise}
+use Rattle.executive.proofs.SoundPlans.{sound-plan}
 use Rattle.executive.proofs.Places.{length-tasks, task-at}
 
 module _ {X : Type 0} (x : Executive X) where
@@ -51,18 +54,26 @@ module _ {X : Type 0} (x : Executive X) where
     pub back : (ys zs : List Slot) → length ys ≡ length (midOf 0 (n - 0) (x .slots)) → take lineCount (ys ++ zs) ≡ ys
     back ys zs same = take-at ys zs lineCount (same ∙ ap length lent ∙ slot-count)
 
-pub took : {X : Type 0} (ahead : Job → Job → Bool) (before after : Executive X) (call : Call) (told : Reply) → nextOf ahead (viewOf before) call ≡ (viewOf after, told) → after .plan ≡ before .plan → after .ranking ≡ before .ranking → Took ahead before after call told
-took ahead before after call told next plan ranking =
-    let state : viewOf after ≡ nextOf ahead (viewOf before) call .0 = ap (λ o. o .0) (sym next) in
-    let reply : told ≡ nextOf ahead (viewOf before) call .1 = ap (λ o. o .1) (sym next) in
-    record {
-      state = state;
-      reply = reply;
-      plan = plan;
-      ranking = ranking;
-      history = λ start h ran.
-          subst (λ p. Ran ahead (vec-items (p .lines)) start (h ++ event call told ∷ []) (viewOf after)) (sym plan)
-          (subst (λ s. Ran ahead (vec-items (before .plan .lines)) start (h ++ event call told ∷ []) s) (sym state)
-          (subst (λ r. Ran ahead (vec-items (before .plan .lines)) start (h ++ event call r ∷ []) (nextOf ahead (viewOf before) call .0)) (sym reply)
-          (ran-push ahead h (begun start (vec-items (before .plan .lines))) (viewOf before) call ran)));
-    }
+module _ {X : Type 0} (ahead : Job → Job → Bool) (lawful : Lawful ahead) (before after : Executive X) (call : Call) (told : Reply) (next : nextOf ahead (viewOf before) call ≡ (viewOf after, told)) (plan : after .plan ≡ before .plan) where
+  state : viewOf after ≡ nextOf ahead (viewOf before) call .0
+  state = ap (λ o. o .0) (sym next)
+
+  reply : told ≡ nextOf ahead (viewOf before) call .1
+  reply = ap (λ o. o .1) (sym next)
+
+  longer : (start : ℕ) (h : History) → Ran ahead (vec-items (before .plan .lines)) start h (viewOf before) → Ran ahead (vec-items (after .plan .lines)) start (h ++ event call told ∷ []) (viewOf after)
+  longer start h ran =
+      subst (λ p. Ran ahead (vec-items (p .lines)) start (h ++ event call told ∷ []) (viewOf after)) (sym plan)
+      (subst (λ s. Ran ahead (vec-items (before .plan .lines)) start (h ++ event call told ∷ []) s) (sym state)
+      (subst (λ r. Ran ahead (vec-items (before .plan .lines)) start (h ++ event call r ∷ []) (nextOf ahead (viewOf before) call .0)) (sym reply)
+      (ran-push ahead h (begun start (vec-items (before .plan .lines))) (viewOf before) call ran)))
+
+  pub took : after .ranking ≡ before .ranking → Took ahead before after call told
+  took ranking = record {
+    state = state;
+    reply = reply;
+    plan = plan;
+    ranking = ranking;
+    history = longer;
+    promised = λ start h ran. promise ahead lawful _ _ start _ _ (sound-plan (after .plan)) (longer start h ran);
+  }

@@ -20,6 +20,8 @@ use Rattle.runs.specs.declared.call.StepReport.{StepReport}
 use Rattle.executive.specs.declared.executive.Executive.{Executive}
 use Rattle.runs.specs.Calls.{State, stateOf, nextOf}
 use Rattle.runs.specs.Histories.{History, Ran, event}
+use Rattle.runs.specs.Promise.{Promised}
+use Rattle.planning.specs.Hyperperiods.{hyperperiod}
 use Rattle.executive.specs.Slots.{tasksOf}
 
 -- its clock, the lines of its plan under way, and where the last unit went
@@ -36,8 +38,8 @@ abbrev pub doneOr : Result (Unit {0}) Fault → Reply
 doneOr (Ok _) = Done
 doneOr (Err e) = Refused e
 
--- The call leaves the state and gets the reply that the rules say; plan and ranking stay; and it is one
--- event more of every run that led here.
+-- The call leaves the state and gets the reply that the rules say; plan and ranking stay; it is one event
+-- more of every run that led here; and that longer run keeps the promise.
 pub record Took {X : Type 0} (ahead : Job → Job → Bool) (before after : Executive X) (call : Call) (told : Reply) : Type 0 where
   pub state : viewOf after ≡ nextOf ahead (viewOf before) call .0
   pub reply : told ≡ nextOf ahead (viewOf before) call .1
@@ -45,3 +47,5 @@ pub record Took {X : Type 0} (ahead : Job → Job → Bool) (before after : Exec
   pub ranking : after .ranking ≡ before .ranking
   pub history : (start : ℕ) (h : History) → Ran ahead (vec-items (before .plan .lines)) start h (viewOf before)
       → Ran ahead (vec-items (after .plan .lines)) start (h ++ event call told ∷ []) (viewOf after)
+  pub promised : (start : ℕ) (h : History) → Ran ahead (vec-items (before .plan .lines)) start h (viewOf before)
+      → Promised ahead (vec-items (after .plan .lines)) (hyperperiod (vec-items (after .plan .lines))) start (h ++ event call told ∷ []) (viewOf after)

@@ -36,13 +36,15 @@ pub returns-in-Some : need.returns-in-Some
 returns-in-Some g c =
     let x = c .args .self .now in
     let ah = g .R·Ranking .ahead (x .ranking) in
+    let law = g .R·Ranking·met .lawful (x .ranking) in
     let after = c .in-Some .ensures tt in
     let now = c .end-early .ensures in
-    took ah x _ EarlyEnd _ (end-next x (c .line-count-n .result) (c .line-count-n .ensures) (c .end-early .last .slots) _ (c .end-early .kept .slots) (c .in-Some .line) (c .last-after .last .last) (after .ends) (after .last) (now .tasks)) refl refl
+    took ah law x _ EarlyEnd _ (end-next x (c .line-count-n .result) (c .line-count-n .ensures) (c .end-early .last .slots) _ (c .end-early .kept .slots) (c .in-Some .line) (c .last-after .last .last) (after .ends) (after .last) (now .tasks)) refl refl
 
 pub returns-in-None : need.returns-in-None
 returns-in-None g c =
     let x = c .args .self .now in
     let ah = g .R·Ranking .ahead (x .ranking) in
+    let law = g .R·Ranking·met .lawful (x .ranking) in
     let after = c .in-None .ensures tt in
-    took ah x _ EarlyEnd _ (end-refused (x .clock) (tasksOf (slotsOf x)) (x .last) (after .ends) ∙ ap (λ u. (stateOf (x .clock) (tasksOf (slotsOf x)) u, Refused NoJob)) (sym (after .last))) refl refl
+    took ah law x _ EarlyEnd _ (end-refused (x .clock) (tasksOf (slotsOf x)) (x .last) (after .ends) ∙ ap (λ u. (stateOf (x .clock) (tasksOf (slotsOf x)) u, Refused NoJob)) (sym (after .last))) refl refl

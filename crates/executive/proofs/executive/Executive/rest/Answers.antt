@@ -18,10 +18,11 @@ pub returns-in-Break-line : need.returns-in-Break-line
 returns-in-Break-line g c =
     let x = c .args .self .now in
     let ah = g .R·Ranking .ahead (x .ranking) in
+    let law = g .R·Ranking·met .lawful (x .ranking) in
     let number = c .args .number in
     let p = err-from-errBy (c .from-residual .result) (c .from-residual .ensures .1) in
     subst (λ r. Took ah x x (Rest number) (doneOr r)) (sym (p .1))
-    (took ah x x (Rest number) (Refused (p .0)) (rest-refused x (c .line-count-n .result) (c .line-count-n .ensures) number (p .0) (ap Err (p .2) ∙ c .in-Break-line .ensures tt)) refl refl)
+    (took ah law x x (Rest number) (Refused (p .0)) (rest-refused x (c .line-count-n .result) (c .line-count-n .ensures) number (p .0) (ap Err (p .2) ∙ c .in-Break-line .ensures tt)) refl refl)
 
 pub set-aside-requires : need.set-aside-requires
 set-aside-requires g c κs =
@@ -43,5 +44,6 @@ pub returns : need.returns
 returns g c =
     let x = c .args .self .now in
     let ah = g .R·Ranking .ahead (x .ranking) in
+    let law = g .R·Ranking·met .lawful (x .ranking) in
     let now = c .set-aside .ensures in
-    took ah x _ (Rest (c .args .number)) _ (rest-next x (c .line-count-n .result) (c .line-count-n .ensures) (c .set-aside .last .slots) _ (c .set-aside .kept .slots) (c .args .number) (c .in-Continue-line .line) (c .last-after .last .last) (c .in-Continue-line .ensures tt) (c .last-after .ensures .last) (now .tasks)) refl refl
+    took ah law x _ (Rest (c .args .number)) _ (rest-next x (c .line-count-n .result) (c .line-count-n .ensures) (c .set-aside .last .slots) _ (c .set-aside .kept .slots) (c .args .number) (c .in-Continue-line .line) (c .last-after .last .last) (c .in-Continue-line .ensures tt) (c .last-after .ensures .last) (now .tasks)) refl refl

@@ -18,10 +18,11 @@ pub returns-in-Break-line : need.returns-in-Break-line
 returns-in-Break-line g c =
     let x = c .args .self .now in
     let ah = g .R·Ranking .ahead (x .ranking) in
+    let law = g .R·Ranking·met .lawful (x .ranking) in
     let number = c .args .number in
     let p = err-from-errBy (c .from-residual .result) (c .from-residual .ensures .1) in
     subst (λ r. Took ah x x (Resume number) (doneOr r)) (sym (p .1))
-    (took ah x x (Resume number) (Refused (p .0)) (resume-refused x (c .line-count-n .result) (c .line-count-n .ensures) number (p .0) (ap Err (p .2) ∙ c .in-Break-line .ensures tt)) refl refl)
+    (took ah law x x (Resume number) (Refused (p .0)) (resume-refused x (c .line-count-n .result) (c .line-count-n .ensures) number (p .0) (ap Err (p .2) ∙ c .in-Break-line .ensures tt)) refl refl)
 
 pub take-up-requires : need.take-up-requires
 take-up-requires g c κs =
@@ -43,5 +44,6 @@ pub returns : need.returns
 returns g c =
     let x = c .args .self .now in
     let ah = g .R·Ranking .ahead (x .ranking) in
+    let law = g .R·Ranking·met .lawful (x .ranking) in
     let now = c .take-up .ensures in
-    took ah x _ (Resume (c .args .number)) _ (resume-next x (c .line-count-n .result) (c .line-count-n .ensures) (c .take-up .last .slots) _ (c .take-up .kept .slots) (c .args .number) (c .in-Continue-line .line) (c .in-Continue-line .ensures tt) (now .tasks)) refl refl
+    took ah law x _ (Resume (c .args .number)) _ (resume-next x (c .line-count-n .result) (c .line-count-n .ensures) (c .take-up .last .slots) _ (c .take-up .kept .slots) (c .args .number) (c .in-Continue-line .line) (c .in-Continue-line .ensures tt) (now .tasks)) refl refl

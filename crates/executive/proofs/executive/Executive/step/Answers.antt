@@ -12,7 +12,8 @@ pub returns-then-self-ge-LAST-CLOCK : need.returns-then-self-ge-LAST-CLOCK
 returns-then-self-ge-LAST-CLOCK g c =
     let x = c .args .self .now in
     let ah = g .R·Ranking .ahead (x .ranking) in
-    took ah x x Step _ (step-refused ah (viewOf x) (c .if-self-ge-LAST-CLOCK .taken)) refl refl
+    let law = g .R·Ranking·met .lawful (x .ranking) in
+    took ah law x x Step _ (step-refused ah (viewOf x) (c .if-self-ge-LAST-CLOCK .taken)) refl refl
 
 pub step-requires : need.step-requires
 step-requires g c κs =
@@ -24,6 +25,7 @@ pub ghost-self : need.ghost-self
 ghost-self g c =
     let x = c .args .self .now in
     let ah = g .R·Ranking .ahead (x .ranking) in
+    let law = g .R·Ranking·met .lawful (x .ranking) in
     let now = c .step .ensures in
     (omega (arith, c .if-self-ge-LAST-CLOCK .left, c .note-unit .ensures .clock), (∣ step-stands x (c .line-count-n .result) (c .line-count-n .ensures) (c .step .last .slots) _ (c .step .kept .slots) ah (c .if-self-ge-LAST-CLOCK .left) (c .step .result .report) (c .note-unit .last .clock) (c .note-unit .last .last) (now .tasks) (now .report) (c .note-unit .ensures .clock) (c .note-unit .ensures .last) (now .kept) ∣₁, tt))
 
@@ -31,5 +33,6 @@ pub returns : need.returns
 returns g c =
     let x = c .args .self .now in
     let ah = g .R·Ranking .ahead (x .ranking) in
+    let law = g .R·Ranking·met .lawful (x .ranking) in
     let now = c .step .ensures in
-    took ah x _ Step _ (step-next x (c .line-count-n .result) (c .line-count-n .ensures) (c .step .last .slots) _ (c .step .kept .slots) ah (c .if-self-ge-LAST-CLOCK .left) (c .step .result .report) (c .note-unit .last .clock) (c .note-unit .last .last) (now .tasks) (now .report) (c .note-unit .ensures .clock) (c .note-unit .ensures .last)) refl refl
+    took ah law x _ Step _ (step-next x (c .line-count-n .result) (c .line-count-n .ensures) (c .step .last .slots) _ (c .step .kept .slots) ah (c .if-self-ge-LAST-CLOCK .left) (c .step .result .report) (c .note-unit .last .clock) (c .note-unit .last .last) (now .tasks) (now .report) (c .note-unit .ensures .clock) (c .note-unit .ensures .last)) refl refl
