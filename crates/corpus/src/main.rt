@@ -5,32 +5,11 @@
 use model::fault::FaultDisplay;
 use model::fault::FaultError;
 use report::desk::Desk;
+use script::next_record;
 use std::error::AnyError;
 use std::io;
 use std::io::Read;
 use std::io::Write;
-
-// The length that a record begins with, and what follows its line; none where it has no such line.
-fn record_length(batch: &[u8]) -> Option<(usize, &[u8])> {
-    let mut len: usize = 0;
-    for (i, b) in batch.iter().enumerate() {
-        match *b {
-            b'0'..=b'9' => len = len.saturating_mul(10).saturating_add((*b - b'0') as usize),
-            b'\n' => return Some((len, &batch[i + 1..])),
-            _ => return None,
-        }
-    }
-    None
-}
-
-// The text of the next record, and what follows it.
-fn next_record(batch: &[u8]) -> Option<(&[u8], &[u8])> {
-    let (len, rest) = record_length(batch)?;
-    if len > rest.len() {
-        return None;
-    }
-    Some(rest.split_at(len))
-}
 
 fn answer_one(rt: &LibcRuntime, desk: &mut Desk, k: usize, text: &[u8]) -> Result<(), AnyError> {
     let mut out = [0; 1024];
