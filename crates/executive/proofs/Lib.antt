@@ -1,4 +1,5 @@
 pub mod Arriving
+pub mod Batches
 pub mod Coming
 pub mod Facts
 pub mod LookUps

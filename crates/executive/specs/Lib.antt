@@ -1,3 +1,4 @@
+pub mod Batches
 pub mod Changes
 pub mod Executives
 pub mod Slots

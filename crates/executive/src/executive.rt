@@ -5,6 +5,7 @@ ghost use lib.ListN.{take};
 ghost use Rattle.std.specs.Of.Vec.{vec-items, vec-len};
 ghost use Rattle.executive.specs.Executives.{Standing};
 
+pub mod batch;
 mod calls;
 
 use runs::call::LastUnit;
