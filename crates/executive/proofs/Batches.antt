@@ -72,8 +72,8 @@ module _ (ahead : Job → Job → Bool) where
     pub took-each : Lawful ahead → (events : History) → RanFrom ahead (viewOf before) events (viewOf after) → after .plan ≡ before .plan → after .ranking ≡ before .ranking → TookEach ahead before after events
     took-each lawful events exact plan ranking =
         let longer : (start : ℕ) (h : History) → Ran ahead (vec-items (before .plan .lines)) start h (viewOf before) → Ran ahead (vec-items (after .plan .lines)) start (h ++ events) (viewOf after) = λ start h ran.
-            subst (λ p. Ran ahead (vec-items (p .lines)) start (h ++ events) (viewOf after)) (sym plan)
-            (join h events (begun start (vec-items (before .plan .lines))) (viewOf before) (viewOf after) ran exact) in
+        subst (λ p. Ran ahead (vec-items (p .lines)) start (h ++ events) (viewOf after)) (sym plan)
+        (join h events (begun start (vec-items (before .plan .lines))) (viewOf before) (viewOf after) ran exact) in
         record {
           exact = exact;
           plan = plan;

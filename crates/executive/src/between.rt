@@ -8,13 +8,13 @@ ghost use Rattle.runs.specs.Calls.{onLine};
 ghost use Rattle.executive.specs.Changes.{placeIn, changeOf, lineToChange, lastAfter, endedBy, InOrder, jobAside};
 ghost use Rattle.executive.specs.Slots.{AllKept, blankSlot, tasksOf};
 ghost use Rattle.runs.specs.Tasks.{endedEarly, pending, rested, resumed};
-use runs::call::LastUnit;
 use crate::slot::Slot;
 use crate::task::is_pending;
-use runs::task::Task;
 use model::fault::Fault;
 use model::kind::Kind;
 use model::kind::KindPartialEq;
+use runs::call::LastUnit;
+use runs::task::Task;
 
 #[derive(Clone, Copy)]
 pub(crate) enum Event {

@@ -8,10 +8,10 @@ ghost use Rattle.executive.specs.Executives.{Standing};
 pub mod batch;
 mod calls;
 
-use runs::call::LastUnit;
 use crate::slot::Slot;
 use model::ranking::Ranking;
 use planning::plan::Plan;
+use runs::call::LastUnit;
 
 // The plan is out of the caller's hands until `stop` gives it back. The slots of its lines stand first;
 // those behind them are never looked at.

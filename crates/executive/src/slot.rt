@@ -7,13 +7,13 @@ ghost use lib.ListN.{length};
 ghost use Rattle.model.specs.Ranges.{Ranged, AllRanged};
 ghost use Rattle.runs.specs.Tasks.{due, admitted, arrived, newTask, newTasks};
 ghost use Rattle.executive.specs.Slots.{comingAt, IsComing, Kept, AllKept, tasksOf};
-use runs::task::Counts;
 use crate::task::admit;
 use crate::task::new_task;
 use crate::task::strike;
-use runs::task::Task;
 use model::kind::Kind;
 use model::line::Line;
+use runs::task::Counts;
+use runs::task::Task;
 
 // `next` is the line's first release at or after the next step.
 #[derive(Clone, Copy)]

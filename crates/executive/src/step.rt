@@ -12,13 +12,13 @@ ghost use Rattle.model.specs.declared.job.Job.{Job};
 ghost use Rattle.runs.specs.Tasks.{due, given, jobOf, pending};
 ghost use Rattle.executive.specs.Slots.{tasksOf, blankSlot, taskAt, Within, AllKept};
 ghost use Rattle.runs.specs.Steps.{firstFrom, firstOf, arrivedAll, stepped as steppedAll, lowestDue, reportFor, reportOf, ToFirst};
-use runs::call::StepReport;
 use crate::slot::Slot;
 use crate::task::give;
 use crate::task::is_pending;
 use crate::task::job;
-use runs::task::Task;
 use model::ranking::Ranking;
+use runs::call::StepReport;
+use runs::task::Task;
 
 // How many jobs were struck out at an instant, and the lowest line of them, or 0.
 #[derive(Clone, Copy)]

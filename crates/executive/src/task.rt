@@ -6,7 +6,6 @@ ghost use mathlib.Core.Bool.{true};
 ghost use Rattle.runs.specs.Tasks.{pending, due, struck, arrives, admitted, jobOf, given, newTask};
 use model::job::Job;
 use model::line::Line;
-
 use runs::task::Counts;
 use runs::task::Task;
 

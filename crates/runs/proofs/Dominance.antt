@@ -50,10 +50,10 @@ pub on-line-dom : (σ n : ℕ) (f : Task → Task) → ((x : Task) → Lowered x
 on-line-dom σ n f low xs ys dom = record {
   same-length = length-on-line n f xs ∙ dom .same-length;
   under = λ i h.
-    let hx : i < length xs = omega (arith, length-on-line n f xs) in
-    let x = taskOf xs i in
-    subst (λ z. Under σ z (taskOf ys i)) (sym (on-line-at n f xs i hx))
-    (cond-both (eqb (x .number) n) (f x) x (λ z. Under σ z (taskOf ys i))
+      let hx : i < length xs = omega (arith, length-on-line n f xs) in
+      let x = taskOf xs i in
+      subst (λ z. Under σ z (taskOf ys i)) (sym (on-line-at n f xs i hx))
+      (cond-both (eqb (x .number) n) (f x) x (λ z. Under σ z (taskOf ys i))
       (λ _. lowered-under σ x (f x) (taskOf ys i) (low x) (dom .under i hx))
       (λ _. dom .under i hx));
 }
@@ -74,11 +74,11 @@ pub due-under : (t τ σ : ℕ) (x y : Task) → t ≡ τ + σ → Under σ x y 
 due-under t τ σ x y e u clear =
     ⊎-elim
     (λ (d : due t x ≡ true).
-      let both = and-parts _ _ d in
-      let some : 0 < x .left = ltb-true 0 (x .left) (both .0) in
-      let end : x .release + x .line .deadline ≡ t = eqb-true _ _ (both .1) in
-      let end′ : y .release + y .line .deadline ≡ τ = omega (arith, end, u .released some, ap (λ l. l .deadline) (u .same-line)) in
-      absurd (both-ways (due τ y) clear (and-from _ _ (lt-ltb 0 (y .left) (omega (arith, u .less some))) (eq-eqb _ _ end′))))
+    let both = and-parts _ _ d in
+    let some : 0 < x .left = ltb-true 0 (x .left) (both .0) in
+    let end : x .release + x .line .deadline ≡ t = eqb-true _ _ (both .1) in
+    let end′ : y .release + y .line .deadline ≡ τ = omega (arith, end, u .released some, ap (λ l. l .deadline) (u .same-line)) in
+    absurd (both-ways (due τ y) clear (and-from _ _ (lt-ltb 0 (y .left) (omega (arith, u .less some))) (eq-eqb _ _ end′))))
     (λ (d : due t x ≡ false). d)
     (cases-bool (due t x))
 
@@ -86,10 +86,10 @@ admitted-under : (t τ σ : ℕ) (x y : Task) → t ≡ τ + σ → Under σ x y
 admitted-under t τ σ x y e u both none =
     cond-both (arrives t x) _ _ (λ a. Under σ a (admitted τ y))
     (λ p. subst (Under σ _) (sym (cond-true (arrives τ y) _ _ (both p)))
-      (record { same-number = u .same-number; same-line = u .same-line; less = λ _. omega (arith, ap (λ l. l .length) (u .same-line)); released = λ _. e }))
+    (record { same-number = u .same-number; same-line = u .same-line; less = λ _. omega (arith, ap (λ l. l .length) (u .same-line)); released = λ _. e }))
     (λ p. cond-both (arrives τ y) _ _ (λ b. Under σ x b)
-      (λ q. let gone = none p q in record { same-number = u .same-number; same-line = u .same-line; less = λ some. absurd (omega arith); released = λ some. absurd (omega arith) })
-      (λ q. u))
+    (λ q. let gone = none p q in record { same-number = u .same-number; same-line = u .same-line; less = λ some. absurd (omega arith); released = λ some. absurd (omega arith) })
+    (λ q. u))
 
 arrived-under : (t τ σ : ℕ) (x y : Task) → t ≡ τ + σ → Under σ x y → due τ y ≡ false → (arrives t x ≡ true → arrives τ y ≡ true) → (arrives t x ≡ false → arrives τ y ≡ true → x .left ≡ 0) → Under σ (arrived t x) (arrived τ y)
 arrived-under t τ σ x y e u clear both none =
@@ -103,14 +103,16 @@ served-under : (n m σ : ℕ) (x y : Task) → Under σ x y → (0 < x .left →
 served-under n m σ x y u never =
     cond-both (eqb (x .number) n) (given x) x (λ a. Under σ a (served m y))
     (λ p. cond-both (eqb (y .number) m) (given y) y (Under σ (given x))
-      (λ q. record { same-number = u .same-number; same-line = u .same-line; less = λ some. omega (arith, u .less (more some)); released = λ some. u .released (more some) })
-      (λ q. record { same-number = u .same-number; same-line = u .same-line; less = λ some. omega (arith, u .less (more some)); released = λ some. u .released (more some) }))
+    (λ q. record { same-number = u .same-number; same-line = u .same-line; less = λ some. omega (arith, u .less (more some)); released = λ some. u .released (more some) })
+    (λ q. record { same-number = u .same-number; same-line = u .same-line; less = λ some. omega (arith, u .less (more some)); released = λ some. u .released (more some) }))
     (λ p. cond-both (eqb (y .number) m) (given y) y (Under σ x)
-      (λ q. record {
-        same-number = u .same-number; same-line = u .same-line;
-        less = λ some. absurd (never some (eqb-false _ _ p) (eqb-true _ _ q));
-        released = λ some. absurd (never some (eqb-false _ _ p) (eqb-true _ _ q)) })
-      (λ q. u))
+    (λ q. record {
+      same-number = u .same-number;
+      same-line = u .same-line;
+      less = λ some. absurd (never some (eqb-false _ _ p) (eqb-true _ _ q));
+      released = λ some. absurd (never some (eqb-false _ _ p) (eqb-true _ _ q));
+    })
+    (λ q. u))
   where
     more : 0 < x .left - 1 → 0 < x .left
     more h = omega arith
@@ -129,8 +131,8 @@ sound-at xs i w h =
 module _ (ahead : Job → Job → Bool) (lawful : Lawful ahead) where
   -- The line that gets the unit in ys does not stay as it is in xs with a pending job.
   never-alone : (σ : ℕ) (xs ys : List Task) → WellFormed xs → WellFormed ys → Dom σ xs ys
-    → (n m : ℕ) → ToFirst ahead xs n → ToFirst ahead ys m
-    → (i : ℕ) → i < length xs → 0 < taskOf xs i .left → (taskOf xs i .number ≡ n → ⊥) → taskOf ys i .number ≡ m → ⊥
+      → (n m : ℕ) → ToFirst ahead xs n → ToFirst ahead ys m
+      → (i : ℕ) → i < length xs → 0 < taskOf xs i .left → (taskOf xs i .number ≡ n → ⊥) → taskOf ys i .number ≡ m → ⊥
   never-alone σ xs ys wx wy dom zero m tx ty i h some other here = both-ways (pending (taskOf xs i)) (all-getD (λ x. pending x ≡ false) xs i blankTask h tx) (lt-ltb 0 (taskOf xs i .left) some)
   never-alone σ xs ys wx wy dom (suc j) zero tx ty i h some other here = omega (arith, here, numbered-at 1 ys i blankTask (omega (arith, dom .same-length)) (wy .0))
   never-alone σ xs ys wx wy dom (suc j) (suc k) tx ty i h some other here =
@@ -147,11 +149,11 @@ module _ (ahead : Job → Job → Bool) (lawful : Lawful ahead) where
       let jj = job-under σ (taskOf xs j) (taskOf ys j) uj some-j in
       let behind : ahead (jobOf (taskOf xs j)) (jobOf (taskOf xs i)) ≡ true = tx .2 i blankTask h apart (lt-ltb 0 _ some) in
       let front : ahead (jobOf (taskOf ys i)) (jobOf (taskOf ys j)) ≡ true =
-        subst (λ p. ahead (jobOf (taskOf ys p)) (jobOf (taskOf ys j)) ≡ true) same
-        (ty .2 j blankTask (omega (arith, dom .same-length)) (λ e. apart (omega arith)) (lt-ltb 0 _ (omega (arith, uj .less some-j)))) in
+      subst (λ p. ahead (jobOf (taskOf ys p)) (jobOf (taskOf ys j)) ≡ true) same
+      (ty .2 j blankTask (omega (arith, dom .same-length)) (λ e. apart (omega arith)) (lt-ltb 0 _ (omega (arith, uj .less some-j)))) in
       let shifted : ahead (jobOf (taskOf xs i)) (jobOf (taskOf xs j)) ≡ true =
-        subst₂ (λ a b. ahead a b ≡ true) (sym ji) (sym jj)
-        (lawful .ordered .shift (jobOf (taskOf ys i)) (jobOf (taskOf ys j)) σ (subst Sound ji si) (subst Sound jj sj) ∙ front) in
+      subst₂ (λ a b. ahead a b ≡ true) (sym ji) (sym jj)
+      (lawful .ordered .shift (jobOf (taskOf ys i)) (jobOf (taskOf ys j)) σ (subst Sound ji si) (subst Sound jj sj) ∙ front) in
       let others : taskOf xs i .number ≡ taskOf xs j .number → ⊥ = λ e. apart (omega (arith, e, numbered-at 1 xs i blankTask h (wx .0), numbered-at 1 xs j blankTask hj (wx .0))) in
       both-ways _ (lawful .ordered .exactly-one (jobOf (taskOf xs i)) (jobOf (taskOf xs j)) si sj others ∙ ap not behind) shifted
 
@@ -165,25 +167,25 @@ module _ (ahead : Job → Job → Bool) (lawful : Lawful ahead) where
     arrived-dom = record {
       same-length = length-arrived t xs ∙ dom .same-length ∙ sym (length-arrived τ ys);
       under = λ i h.
-        let hx : i < length xs = omega (arith, length-arrived t xs) in
-        let hy : i < length ys = omega (arith, dom .same-length) in
-        subst₂ (Under σ) (sym (arrived-at t xs i hx)) (sym (arrived-at τ ys i hy))
-        (arrived-under t τ σ (taskOf xs i) (taskOf ys i) when (dom .under i hx) (clear i hy) (both i hx) (none i hx));
+          let hx : i < length xs = omega (arith, length-arrived t xs) in
+          let hy : i < length ys = omega (arith, dom .same-length) in
+          subst₂ (Under σ) (sym (arrived-at t xs i hx)) (sym (arrived-at τ ys i hy))
+          (arrived-under t τ σ (taskOf xs i) (taskOf ys i) when (dom .under i hx) (clear i hy) (both i hx) (none i hx));
     }
 
     pub step-dom : Dom σ (stepped ahead t xs) (stepped ahead τ ys)
     step-dom = record {
       same-length = length-stepped ahead t xs ∙ dom .same-length ∙ sym (length-stepped ahead τ ys);
       under = λ i h.
-        let hx : i < length xs = omega (arith, length-stepped ahead t xs) in
-        let hy : i < length ys = omega (arith, dom .same-length) in
-        let ha : i < length (arrivedAll t xs) = omega (arith, length-arrived t xs) in
-        let ax = arrived-at t xs i hx in
-        let ay = arrived-at τ ys i hy in
-        let wx′ = arrived-well-formed t xs soon wx in
-        let wy′ = arrived-well-formed τ ys (omega arith) wy in
-        let u = arrived-dom .under i ha in
-        subst₂ (Under σ) (ap (served (who ahead t xs)) ax ∙ sym (stepped-at ahead t xs i hx)) (ap (served (who ahead τ ys)) ay ∙ sym (stepped-at ahead τ ys i hy))
-        (served-under (who ahead t xs) (who ahead τ ys) σ (taskOf (arrivedAll t xs) i) (taskOf (arrivedAll τ ys) i) u
+          let hx : i < length xs = omega (arith, length-stepped ahead t xs) in
+          let hy : i < length ys = omega (arith, dom .same-length) in
+          let ha : i < length (arrivedAll t xs) = omega (arith, length-arrived t xs) in
+          let ax = arrived-at t xs i hx in
+          let ay = arrived-at τ ys i hy in
+          let wx′ = arrived-well-formed t xs soon wx in
+          let wy′ = arrived-well-formed τ ys (omega arith) wy in
+          let u = arrived-dom .under i ha in
+          subst₂ (Under σ) (ap (served (who ahead t xs)) ax ∙ sym (stepped-at ahead t xs i hx)) (ap (served (who ahead τ ys)) ay ∙ sym (stepped-at ahead τ ys i hy))
+          (served-under (who ahead t xs) (who ahead τ ys) σ (taskOf (arrivedAll t xs) i) (taskOf (arrivedAll τ ys) i) u
           (never-alone σ (arrivedAll t xs) (arrivedAll τ ys) wx′ wy′ arrived-dom (who ahead t xs) (who ahead τ ys) (first-goes-first ahead lawful _ wx′) (first-goes-first ahead lawful _ wy′) i ha));
     }

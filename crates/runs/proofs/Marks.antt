@@ -64,31 +64,33 @@ stateAt ahead ls (suc n) = stepped ahead n (stateAt ahead ls n)
 module _ (ahead : Job → Job → Bool) (ls : List Line) where
   -- units that pass strike nothing out
   passed : (n t u : ℕ) (ys : List Task) → u ≡ t + n → runUnits ahead n t (stateAt ahead ls t) ≡ Ok ys
-    → (ys ≡ stateAt ahead ls u) × ((v : ℕ) → t ≤ v → v < u → lowestDue v (stateAt ahead ls v) ≡ 0)
+      → (ys ≡ stateAt ahead ls u) × ((v : ℕ) → t ≤ v → v < u → lowestDue v (stateAt ahead ls v) ≡ 0)
   passed zero t u ys e r = let same : t ≡ u = omega arith in (sym (same-ok (stateAt ahead ls t) ys r) ∙ ap (stateAt ahead ls) same, λ v low high. absurd (omega arith))
   passed (suc n) t u ys e r =
-    let now = cond-ok (eqb (lowestDue t (stateAt ahead ls t)) 0) (runUnits ahead n (suc t) (stateAt ahead ls (suc t))) (Missed t (lowestDue t (stateAt ahead ls t))) ys r in
-    let on = passed n (suc t) u ys (omega arith) (now .1) in
-    ( on .0
-    , λ v low high. ⊎-elim
-      (λ (same : t ≡ v). subst (λ w. lowestDue w (stateAt ahead ls w) ≡ 0) same (eqb-true _ _ (now .0)))
-      (λ (other : t ≡ v → ⊥). on .1 v (omega (arith, other)) high)
-      (cases-eq t v) )
+      let now = cond-ok (eqb (lowestDue t (stateAt ahead ls t)) 0) (runUnits ahead n (suc t) (stateAt ahead ls (suc t))) (Missed t (lowestDue t (stateAt ahead ls t))) ys r in
+      let on = passed n (suc t) u ys (omega arith) (now .1) in (
+        on .0,
+        λ v low high. ⊎-elim
+            (λ (same : t ≡ v). subst (λ w. lowestDue w (stateAt ahead ls w) ≡ 0) same (eqb-true _ _ (now .0)))
+            (λ (other : t ≡ v → ⊥). on .1 v (omega (arith, other)) high)
+            (cases-eq t v),
+      )
 
   module _ (m : ℕ) (ok : rehearsalOf ahead m ls ≡ Ok tt) where
     -- Up to the second mark nothing is due; at both marks the same units are left.
     pub marks : ((n : ℕ) → n < lastOffset ls + m + m → lowestDue n (stateAt ahead ls n) ≡ 0)
-      × (sameLeft (stateAt ahead ls (lastOffset ls + m)) (stateAt ahead ls (lastOffset ls + m + m)) ≡ true)
+        × (sameLeft (stateAt ahead ls (lastOffset ls + m)) (stateAt ahead ls (lastOffset ls + m + m)) ≡ true)
     marks =
-      let mark = lastOffset ls + m in
-      let run = cond-ok-not (ltb m (loadOf m ls)) (betweenMarks ahead mark m (newTasks 1 ls)) Overload tt ok in
-      let first = and-then-ok (runUnits ahead mark 0 (newTasks 1 ls)) (λ first. andThen (runUnits ahead m mark first) (λ second. settled first second)) tt run in
-      let second = and-then-ok (runUnits ahead m mark (first .0)) (settled (first .0)) tt (first .2) in
-      let p = passed mark 0 mark (first .0) (omega arith) (first .1) in
-      let q = passed m mark (mark + m) (second .0) (omega arith) (subst (λ xs. runUnits ahead m mark xs ≡ Ok (second .0)) (p .0) (second .1)) in
-      let s : sameLeft (first .0) (second .0) ≡ true = cond-ok (sameLeft (first .0) (second .0)) (Ok tt) Unsettled tt (second .2) .0 in
-      ( (λ n h. ⊎-elim
-        (λ (low : n < mark). p .1 n (omega arith) low)
-        (λ (high : mark ≤ n). q .1 n high h)
-        (cases-lt n mark))
-      , subst₂ (λ a b. sameLeft a b ≡ true) (p .0) (q .0) s )
+        let mark = lastOffset ls + m in
+        let run = cond-ok-not (ltb m (loadOf m ls)) (betweenMarks ahead mark m (newTasks 1 ls)) Overload tt ok in
+        let first = and-then-ok (runUnits ahead mark 0 (newTasks 1 ls)) (λ first. andThen (runUnits ahead m mark first) (λ second. settled first second)) tt run in
+        let second = and-then-ok (runUnits ahead m mark (first .0)) (settled (first .0)) tt (first .2) in
+        let p = passed mark 0 mark (first .0) (omega arith) (first .1) in
+        let q = passed m mark (mark + m) (second .0) (omega arith) (subst (λ xs. runUnits ahead m mark xs ≡ Ok (second .0)) (p .0) (second .1)) in
+        let s : sameLeft (first .0) (second .0) ≡ true = cond-ok (sameLeft (first .0) (second .0)) (Ok tt) Unsettled tt (second .2) .0 in (
+          (λ n h. ⊎-elim
+              (λ (low : n < mark). p .1 n (omega arith) low)
+              (λ (high : mark ≤ n). q .1 n high h)
+              (cases-lt n mark)),
+          subst₂ (λ a b. sameLeft a b ≡ true) (p .0) (q .0) s,
+        )

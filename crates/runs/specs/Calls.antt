@@ -21,7 +21,7 @@ use Rattle.runs.specs.declared.call.Call.the-variants.{Step, EarlyEnd, Rest, R
 use Rattle.runs.specs.declared.call.LastUnit.{LastUnit}
 use Rattle.runs.specs.declared.call.LastUnit.the-variants.{Idle, Running, Ended}
 use Rattle.runs.specs.declared.call.Reply.{Reply}
-use Rattle.runs.specs.declared.call.Reply.the-variants.{Done, Refused} 
+use Rattle.runs.specs.declared.call.Reply.the-variants.{Done, Refused}
 use Rattle.runs.specs.declared.call.Reply.the-variants.{Unit as UnitGiven}
 use Rattle.runs.specs.declared.call.StepReport.{StepReport}
 use Rattle.runs.specs.declared.task.Task.{Task}
@@ -83,8 +83,8 @@ abbrev changeRest : Bool → ℕ → State → Outcome → Outcome
 changeRest resting number s done =
     cond (leb 1 number && leb number (length (s .tasks)))
     (let x : Task = getD (s .tasks) (number - 1) blankTask in
-     cond (isRegular (x .line)) (refusedAs (RegularLine number) s)
-     (cond (same (x .resting) resting) (refusedAs (RestAsItIs number) s) done))
+    cond (isRegular (x .line)) (refusedAs (RegularLine number) s)
+    (cond (same (x .resting) resting) (refusedAs (RestAsItIs number) s) done))
     (refusedAs (NoSuchLine number) s)
   where
     same : Bool → Bool → Bool

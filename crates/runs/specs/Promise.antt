@@ -48,14 +48,14 @@ module _ (ls : List Line) (start : ℕ) (h : History) where
   -- of its job and up to the clock, is its own, unless the job was ended early.
   abbrev pub Regularly : Type 0
   Regularly = (i k u : ℕ) → i < length ls → isRegular (getD ls i blank) ≡ true → start ≤ release (getD ls i blank) k
-    → release (getD ls i blank) k ≤ u → u < release (getD ls i blank) k + getD ls i blank .length → u < clockOf start h
-    → (lineAt start h u ≡ i + 1) ⊎ EndedBy (i + 1) (release (getD ls i blank) k) u
+      → release (getD ls i blank) k ≤ u → u < release (getD ls i blank) k + getD ls i blank .length → u < clockOf start h
+      → (lineAt start h u ≡ i + 1) ⊎ EndedBy (i + 1) (release (getD ls i blank) k) u
 
   -- A unit goes to its line's latest release from the start on; its step says 'began' exactly if the
   -- line had no unit since that release, and 'ended' exactly if this is its last.
   abbrev pub Truly : Type 0
   Truly = (i t : ℕ) (r : StepReport) → StepAt start h t r → r .line ≡ i + 1
-    → (i < length ls) × ((k : ℕ) × (start ≤ release (getD ls i blank) k) × (release (getD ls i blank) k ≤ t) × (t < release (getD ls i blank) (k + 1))
+      → (i < length ls) × ((k : ℕ) × (start ≤ release (getD ls i blank) k) × (release (getD ls i blank) k ≤ t) × (t < release (getD ls i blank) (k + 1))
       × (r .began ≡ eqb (unitsIn start h (i + 1) (release (getD ls i blank) k) t) 0)
       × (r .ended ≡ eqb (unitsIn start h (i + 1) (release (getD ls i blank) k) t + 1) (getD ls i blank .length)))
 
@@ -72,17 +72,17 @@ module _ (ls : List Line) (start : ℕ) (h : History) where
   pub record InTime : Type 0 where
     pub none-struck : (t : ℕ) (r : StepReport) → StepAt start h t r → r .struck ≡ 0
     pub none-missed : (i k : ℕ) (a b : History) (r : StepReport) → i < length ls → h ≡ a ++ event Step (UnitGiven r) ∷ b
-      → clockOf start a ≡ release (getD ls i blank) k → restsAfter a (i + 1) ≡ false
-      → release (getD ls i blank) k + getD ls i blank .deadline ≤ clockOf start h
-      → Over i (release (getD ls i blank) k)
+        → clockOf start a ≡ release (getD ls i blank) k → restsAfter a (i + 1) ≡ false
+        → release (getD ls i blank) k + getD ls i blank .deadline ≤ clockOf start h
+        → Over i (release (getD ls i blank) k)
 
 -- What became of the jobs of line i + 1: those made are those ended, missed, set aside and pending, and
 -- of a line that never rested they are its releases from the start to before the clock.
 pub record Tallied (ls : List Line) (start : ℕ) (h : History) (s : State) : Type 0 where
   pub balanced : (i : ℕ) → i < length ls → let c : Counts = getD (s .tasks) i blankTask .counts in
-    c .made ≡ c .ended + c .missed + c .aside + cond (pending (getD (s .tasks) i blankTask)) 1 0
+      c .made ≡ c .ended + c .missed + c .aside + cond (pending (getD (s .tasks) i blankTask)) 1 0
   pub releases : (i : ℕ) → i < length ls → ((c : ℕ) → RestAt start h (i + 1) c → ⊥)
-    → getD (s .tasks) i blankTask .counts .made ≡ releasesIn (getD ls i blank) start (length (unitsOf h))
+      → getD (s .tasks) i blankTask .counts .made ≡ releasesIn (getD ls i blank) start (length (unitsOf h))
 
 -- `m` is the hyperperiod of the plan's lines.
 pub record Promised (ahead : Job → Job → Bool) (ls : List Line) (m start : ℕ) (h : History) (s : State) : Type 0 where

@@ -4,14 +4,14 @@
 mod command;
 mod text;
 
-pub use crate::text::next_record;
-
 use crate::command::Command;
 use crate::command::command_of;
 use crate::text::line_of;
+pub use crate::text::next_record;
 use crate::text::start_instant;
 use crate::text::start_line;
 use executive::executive::Executive;
+use executive::executive::batch::run;
 use model::fault::Fault;
 use model::fault::FaultDisplay;
 use model::policy::Policy;
@@ -28,7 +28,11 @@ use std::io;
 use std::io::Write;
 
 // Makes one call and prints its reply; says whether it was accepted.
-fn make<R: Ranking>(rt: &LibcRuntime, executive: &mut Executive<R>, call: Call) -> io::Result<bool> {
+fn make<R: Ranking>(
+    rt: &LibcRuntime,
+    executive: &mut Executive<R>,
+    call: Call,
+) -> io::Result<bool> {
     let clock = executive.clock();
     match executive.take(call) {
         Reply::Unit(unit) => {
@@ -51,7 +55,11 @@ fn make<R: Ranking>(rt: &LibcRuntime, executive: &mut Executive<R>, call: Call) 
 }
 
 // Steps one by one, and no further than the first refusal.
-fn step_on<R: Ranking>(rt: &LibcRuntime, executive: &mut Executive<R>, units: u64) -> io::Result<()> {
+fn step_on<R: Ranking>(
+    rt: &LibcRuntime,
+    executive: &mut Executive<R>,
+    units: u64,
+) -> io::Result<()> {
     for _ in 0..units {
         if !make(rt, executive, Call::Step)? {
             break;
@@ -95,7 +103,11 @@ fn print_unknown(rt: &LibcRuntime, line: &[u8]) -> io::Result<()> {
     output.write_all(b"\n")
 }
 
-fn answer<R: Ranking>(rt: &LibcRuntime, executive: &mut Executive<R>, line: &[u8]) -> io::Result<()> {
+fn answer<R: Ranking>(
+    rt: &LibcRuntime,
+    executive: &mut Executive<R>,
+    line: &[u8],
+) -> io::Result<()> {
     match command_of(line) {
         Some(Command::Step(units)) => step_on(rt, executive, units),
         Some(Command::Run(units)) => match run_on(executive, units) {
@@ -112,14 +124,24 @@ fn answer<R: Ranking>(rt: &LibcRuntime, executive: &mut Executive<R>, line: &[u8
 }
 
 // Starts the plan, answers each line of the script, and stops.
-fn run_script<R: Ranking + Drop>(rt: &LibcRuntime, plan: Plan, ranking: R, start: u64, script: &[u8]) -> io::Result<()> {
-    let mut executive = Executive::start(plan, ranking, start);
+fn run_script<R: Ranking + Drop>(
+    rt: &LibcRuntime,
+    plan: Plan,
+    ranking: R,
+    start: u64,
+    script: &[u8],
+) -> io::Result<()> {
+    let mut executive = run(plan, ranking, start, &[], &mut []);
     let result = answer_all(rt, &mut executive, script);
     let (_plan, _ranking) = executive.stop();
     result
 }
 
-fn answer_all<R: Ranking>(rt: &LibcRuntime, executive: &mut Executive<R>, script: &[u8]) -> io::Result<()> {
+fn answer_all<R: Ranking>(
+    rt: &LibcRuntime,
+    executive: &mut Executive<R>,
+    script: &[u8],
+) -> io::Result<()> {
     let mut rest = script;
     for _ in 0..script.len() {
         let Some((line, behind)) = line_of(rest) else {

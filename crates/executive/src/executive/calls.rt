@@ -17,19 +17,19 @@ use crate::between::line_to_change;
 use crate::between::place_in;
 use crate::between::set_aside;
 use crate::between::take_up;
+use crate::slot::NO_SLOT;
+use crate::slot::set_up;
+use crate::step::step;
+use crate::task::is_pending;
+use model::fault::Fault;
+use model::ranking::Ranking;
+use planning::plan::Plan;
 use runs::call::Call;
 use runs::call::CountsReport;
 use runs::call::LastUnit;
 use runs::call::Reply;
 use runs::call::StepReport;
-use crate::slot::NO_SLOT;
-use crate::slot::set_up;
-use crate::step::step;
-use crate::task::is_pending;
-use planning::plan::Plan;
 use runs::task::Task;
-use model::fault::Fault;
-use model::ranking::Ranking;
 
 const LAST_CLOCK: u64 = 1_000_000_000_000;
 

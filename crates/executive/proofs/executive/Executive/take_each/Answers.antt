@@ -22,11 +22,12 @@ loop-i-again g c =
     let inv = c .loop-i .inv in
     let took : Took ah x y (getD cs i Step) told = subst (λ q. Took (g .R·Ranking .ahead q) x y (getD cs i Step) told) (inv .2) (c .take .ensures) in
     let in-cs : i < length cs = omega (arith, c .min-n .ensures, c .loop-i-test .taken) in
-    let in-rs : i < length rs = omega (arith, c .min-n .ensures, c .loop-i-test .taken, c .loop-i .kept .replies) in
-    ( drop-set-lt (c .min-n .result) rs i told (c .loop-i-test .taken) ∙ inv .0
-    , took .plan ∙ inv .1
-    , took .ranking ∙ inv .2
-    , run-more ah x y cs rs i told (viewOf (c .args .self .now)) in-cs in-rs (inv .3) took )
+    let in-rs : i < length rs = omega (arith, c .min-n .ensures, c .loop-i-test .taken, c .loop-i .kept .replies) in (
+      drop-set-lt (c .min-n .result) rs i told (c .loop-i-test .taken) ∙ inv .0,
+      took .plan ∙ inv .1,
+      took .ranking ∙ inv .2,
+      run-more ah x y cs rs i told (viewOf (c .args .self .now)) in-cs in-rs (inv .3) took,
+    )
 
 pub returns : need.returns
 returns g c =

@@ -22,8 +22,8 @@ returns g c =
     let lines = vec-items (c .args .plan .lines) in
     let ah = g .R·Ranking .ahead (c .args .ranking) in
     let ran : Ran ah lines (c .args .start) events (viewOf y) =
-        subst (λ s. RanFrom ah s events (viewOf y)) (began .state)
-        (subst (λ q. RanFrom (g .R·Ranking .ahead q) (viewOf x) events (viewOf y)) (began .ranking) (took .exact)) in
+    subst (λ s. RanFrom ah s events (viewOf y)) (began .state)
+    (subst (λ q. RanFrom (g .R·Ranking .ahead q) (viewOf x) events (viewOf y)) (began .ranking) (took .exact)) in
     record {
       plan = took .plan ∙ began .plan;
       ranking = took .ranking ∙ began .ranking;
