@@ -15,6 +15,13 @@ use planning::plan::Plan;
 use runs::call::Call;
 use runs::call::Reply;
 
+// How many of the calls have a place for their reply.
+fn places(calls: &[Call], replies: &[Reply]) -> usize
+    ensures { λ r. ⌜ r ≡ min (length (now (calls .entry))) (length (now (replies .entry))) ⌝ }
+{
+    calls.len().min(replies.len())
+}
+
 impl<R: Ranking> Executive<R> {
     // Makes the calls one after another, and puts each reply into the place of its call; calls without
     // a place for their reply are not made.
@@ -23,7 +30,7 @@ impl<R: Ranking> Executive<R> {
         ensures behind { λ r. ⌜ drop r (now (replies .exit)) ≡ drop r (now (replies .entry)) ⌝ }
         ensures took { λ _. ⌜ TookEach (ahead (now (self .entry) .ranking)) (now (self .entry)) (now (self .exit)) (eventsOf (now (calls .entry)) (now (replies .exit))) ⌝ }
     {
-        let n = calls.len().min(replies.len());
+        let n = places(calls, replies);
         for i in 0..n {
             replies[i] = self.take(calls[i]);
         }
