@@ -21,14 +21,11 @@ use Rattle.runs.specs.Tasks.{due, given, served, blankTask}
 use Rattle.executive.specs.Slots.{tasksOf, AllKept}
 use Rattle.runs.specs.Steps.{better, firstFrom, firstOf, numberOf, arrivedAll, reportFor, reportOf, WellFormed, ToFirst}
 use Rattle.executive.proofs.Arriving.{counts-below, given-kept}
+use Rattle.runs.proofs.Reported.{report-line}
 use Rattle.runs.proofs.Firsts.{first-goes-first}
 use Rattle.runs.proofs.Keeps.{arrived-well-formed}
 use Rattle.executive.proofs.Places.{slotAt, length-tasks, task-at, kept-formed, set-kept}
 use Rattle.runs.proofs.Serving.{numbered-at, serve-one, serve-none}
-
-report-line : (o : Option Task) (n : ℕ) → numberOf o ≡ reportFor o n .line
-report-line None n = refl
-report-line (Some x) n = refl
 
 module _ (ahead : Job → Job → Bool) where
   -- one line more looked at
@@ -47,7 +44,7 @@ module _ (ahead : Job → Job → Bool) where
 
     pub report-to-first : Lawful ahead → t < 10 ^ 12 → WellFormed xs → ToFirst ahead (arrivedAll t xs) (r .line)
     report-to-first lawful soon formed =
-        let line : numberOf (firstOf ahead (arrivedAll t xs)) ≡ r .line = report-line (firstOf ahead (arrivedAll t xs)) (countBy (due t) xs) ∙ ap (λ q. q .line) (sym report-is) in
+        let line : numberOf (firstOf ahead (arrivedAll t xs)) ≡ r .line = sym (report-line (firstOf ahead (arrivedAll t xs)) (countBy (due t) xs)) ∙ ap (λ q. q .line) (sym report-is) in
         subst (ToFirst ahead (arrivedAll t xs)) line (first-goes-first ahead lawful (arrivedAll t xs) (arrived-well-formed t xs soon formed))
 
 served-own : (x : Task) → given x ≡ served (x .number) x

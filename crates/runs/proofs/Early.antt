@@ -27,12 +27,13 @@ use Rattle.runs.specs.Calls.{State, Outcome, nextOf, onLine}
 use Rattle.runs.specs.Histories.{History, startOf, Ran}
 use Rattle.runs.specs.Promise.{SoundPlan}
 use Rattle.runs.specs.Rehearsals.{lastOffset, rehearsalOf}
+use Rattle.runs.proofs.Reported.{report-struck}
 use Rattle.runs.proofs.Basics.{Basic, formed, basics}
 use Rattle.runs.proofs.Dominance.{Under, Dom, due-under, Lowered, on-line-dom, ended-lowers, rested-lowers, resumed-lowers, step-dom}
 use Rattle.runs.proofs.Folding.{offset-below, length-state, state-at, state-well-formed, state-arrives, state-clear, fold-dom}
 use Rattle.runs.proofs.Inductions.{every-run}
 use Rattle.runs.proofs.Latest.{release-again}
-use Rattle.runs.proofs.Marks.{stateAt}
+use Rattle.runs.specs.RehearsalRules.{stateAt}
 use Rattle.runs.proofs.NewTasks.{length-new-tasks, new-tasks-at}
 use Rattle.runs.proofs.Outcomes.{step-outcome, end-outcome, rest-outcome, resume-outcome}
 use Rattle.runs.proofs.Pointwise.{taskOf}
@@ -191,8 +192,4 @@ module _ (ahead : Job → Job → Bool) (lawful : Lawful ahead) (ls : List Line)
 
       -- so a step from here reports that none was struck out
       pub none-reported : reportOf ahead (s .clock) (s .tasks) .struck ≡ 0
-      none-reported = reported (firstOf ahead (arrivedAll (s .clock) (s .tasks))) (countBy (due (s .clock)) (s .tasks)) ∙ none-due
-        where
-          reported : (o : Option Task) (n : ℕ) → reportFor o n .struck ≡ n
-          reported None n = refl
-          reported (Some x) n = refl
+      none-reported = report-struck (firstOf ahead (arrivedAll (s .clock) (s .tasks))) (countBy (due (s .clock)) (s .tasks)) ∙ none-due

@@ -24,8 +24,10 @@ use Rattle.runs.proofs.Keeps.{stepped-well-formed}
 use Rattle.runs.proofs.Kept.{releases-at, struck-is}
 use Rattle.runs.proofs.NewTasks.{length-new-tasks, new-tasks-at, new-well-formed}
 use Rattle.runs.proofs.Pointwise.{taskOf, who, length-stepped, stepped-at}
-use Rattle.runs.proofs.Latest.{release-is, Latest, latest-later}
-use Rattle.runs.proofs.Marks.{same-left, none-lowest, stateAt, marks}
+use Rattle.runs.proofs.Arrivals.{release-at}
+use Rattle.runs.proofs.Latest.{Latest, latest-later}
+use Rattle.runs.specs.RehearsalRules.{stateAt}
+use Rattle.runs.proofs.Marks.{same-left, none-lowest, marks}
 
 -- a step leaves a line's number, figures and rest
 abbrev pub Same : Task → Task → Type 0
@@ -94,11 +96,11 @@ module _ (ahead : Job → Job → Bool) (ls : List Line) where
       let silent : releasesAt l n ≡ false = subst (λ z. releasesAt z n ≡ false) (s .1) (no .0) in
       let r : taskOf (stateAt ahead ls (suc n)) i .release ≡ x .release = ap (λ z. z .release) at ∙ no .1 in
       let past : l .offset < n = ⊎-elim
-      (λ (e : n ≡ l .offset). absurd (both-ways (releasesAt l n) silent (release-is l 0 n (omega arith))))
+      (λ (e : n ≡ l .offset). absurd (both-ways (releasesAt l n) silent (release-at l 0 n (omega arith))))
       (λ (e : n ≡ l .offset → ⊥). omega (arith, e))
       (cases-eq n (l .offset)) in
       let old = latest-at n i h p past in
-      let not-now : n ≡ x .release + l .period → ⊥ = λ e. both-ways (releasesAt l n) silent (release-is l (old .0 + 1) n (omega (arith, e, old .1, add-mul (old .0) 1 (l .period)))) in
+      let not-now : n ≡ x .release + l .period → ⊥ = λ e. both-ways (releasesAt l n) silent (release-at l (old .0 + 1) n (omega (arith, e, old .1, add-mul (old .0) 1 (l .period)))) in
       subst (Latest l (suc n)) (sym r) (old .0, old .1, omega (arith, old .2), omega (arith, old .3, not-now)))
       (step-release n w x (s .2))
 

@@ -11,12 +11,6 @@ use Rattle.model.specs.declared.line.Line.{Line}
 use Rattle.runs.specs.Tasks.{releasesAt}
 use Rattle.runs.specs.Histories.{release}
 
--- the offset and some periods are a release
-pub release-is : (l : Line) (k t : ℕ) → t ≡ release l k → releasesAt l t ≡ true
-release-is l k t e =
-    let rest : t - l .offset ≡ k * l .period = omega arith in
-    and-from _ _ (le-leb (l .offset) t (omega arith)) (eq-eqb _ _ (ap (λ n. n % l .period) rest ∙ mul-mod-left k (l .period)))
-
 -- whole periods later a line has a release again
 pub release-again : (l : Line) (t n c : ℕ) → l .offset ≤ t → n ≡ c * l .period → releasesAt l (t + n) ≡ releasesAt l t
 release-again l t n c from e =

@@ -17,6 +17,7 @@ pub mod Outcomes
 pub mod Pointwise
 pub mod Promised
 pub mod Regular
+pub mod Reported
 pub mod Rules
 pub mod Serving
 pub mod Tallies

@@ -19,6 +19,7 @@ use Rattle.runs.specs.declared.task.Task.{Task}
 use Rattle.runs.specs.Tasks.{due, newTasks}
 use Rattle.runs.specs.Steps.{stepped, lowestDue, Numbered}
 use Rattle.runs.specs.Rehearsals.{loadOf, lastOffset, runUnits, sameLeft, settled, andThen, betweenMarks, rehearsalOf}
+use Rattle.runs.specs.RehearsalRules.{stateAt}
 use Rattle.runs.proofs.Pointwise.{taskOf}
 
 -- what passes in two parts passes in each
@@ -55,11 +56,6 @@ pub none-lowest : (t n : ℕ) (xs : List Task) → 0 < n → Numbered n xs → l
 none-lowest t n [] p num e i h = absurd (omega arith)
 none-lowest t n (x ∷ xs) p num e zero h = lowest-head t x xs (omega (arith, num .0)) e .0
 none-lowest t n (x ∷ xs) p num e (suc i) h = none-lowest t (n + 1) xs (omega arith) (num .1) (lowest-head t x xs (omega (arith, num .0)) e .1) i (omega arith)
-
--- the lines after n units from instant 0, each job at its full length
-abbrev pub stateAt : (Job → Job → Bool) → List Line → ℕ → List Task
-stateAt ahead ls zero = newTasks 1 ls
-stateAt ahead ls (suc n) = stepped ahead n (stateAt ahead ls n)
 
 module _ (ahead : Job → Job → Bool) (ls : List Line) where
   -- units that pass strike nothing out

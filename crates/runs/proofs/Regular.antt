@@ -31,6 +31,7 @@ use Rattle.runs.specs.Steps.{firstOf, numberOf, arrivedAll, stepped, reportFor
 use Rattle.runs.specs.Calls.{State, stateOf, Outcome, begun, lastOf, onLine, endOf, asideOf, nextOf}
 use Rattle.runs.specs.Histories.{Event, event, History, unitOf, clockOf, lineAt, EndAt, restsAfter, release, startOf, Ran}
 use Rattle.runs.specs.Promise.{SoundPlan, EndedBy, Regularly}
+use Rattle.runs.proofs.Reported.{report-line}
 use Rattle.runs.proofs.Arrivals.{release-at, no-release, struck-not, arrived-new, arrived-old}
 use Rattle.runs.proofs.Basics.{Basic, LastRan, LastKept, basics, formed}
 use Rattle.runs.proofs.Firsts.{first-goes-first}
@@ -48,10 +49,6 @@ served-own n x own = cond-both (eqb (x .number) n) _ _ (λ (y : Task). (y .left 
 
 served-less : (n : ℕ) (x : Task) → served n x .left ≤ x .left
 served-less n x = cond-both (eqb (x .number) n) _ _ (λ (y : Task). y .left ≤ x .left) (λ _. omega arith) (λ _. omega arith)
-
-report-line : (o : Option Task) (n : ℕ) → reportFor o n .line ≡ numberOf o
-report-line None n = refl
-report-line (Some x) n = refl
 
 -- Early ends, with one event more.
 module _ (ls : List Line) (start : ℕ) (h : History) (e : Event) (older : (u : ℕ) → start ≤ u → u < clockOf start h → lineAt start (push h e) u ≡ lineAt start h u) where

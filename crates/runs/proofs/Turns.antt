@@ -28,6 +28,7 @@ use Rattle.runs.specs.Steps.{firstOf, numberOf, arrivedAll, stepped, reportFor
 use Rattle.runs.specs.Calls.{State, stateOf, Outcome, lastOf, stepOf, onLine, asideOf, nextOf}
 use Rattle.runs.specs.Histories.{Event, event, History, unitOf, startOf, RanFrom, Ran}
 use Rattle.runs.specs.Promise.{SoundPlan}
+use Rattle.runs.proofs.Reported.{report-line, report-struck}
 use Rattle.runs.proofs.Basics.{Basic, basics, formed, first-place}
 use Rattle.runs.proofs.Firsts.{first-goes-first}
 use Rattle.runs.proofs.Inductions.{every-run}
@@ -62,14 +63,6 @@ pub data Turn (i : ℕ) (s : State) (e : Event) (s′ : State) : Type 0 where
   end : e ≡ event EarlyEnd Done → s .last ≡ Running (i + 1) → Between i s s′ (endedEarly (taskOf (s .tasks) i)) → Turn i s e s′
   rest : e ≡ event (Rest (i + 1)) Done → Between i s s′ (rested (taskOf (s .tasks) i)) → Turn i s e s′
   resume : e ≡ event (Resume (i + 1)) Done → Between i s s′ (resumed (taskOf (s .tasks) i)) → Turn i s e s′
-
-report-line : (o : Option Task) (n : ℕ) → reportFor o n .line ≡ numberOf o
-report-line None n = refl
-report-line (Some x) n = refl
-
-report-struck : (o : Option Task) (n : ℕ) → reportFor o n .struck ≡ n
-report-struck None n = refl
-report-struck (Some x) n = refl
 
 module _ (ahead : Job → Job → Bool) (lawful : Lawful ahead) where
   -- the line to which the unit goes, and what is said of it

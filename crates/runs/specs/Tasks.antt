@@ -6,8 +6,9 @@
 --   admitted    the same line with the job of that release
 --   arrived     struck out first, then admitted
 --   jobOf       its job, as a ranking sees it
---   served      the line that gets the unit has one unit less left
---   ended, setAside   its pending job is over before its time
+--   given       one unit less left
+--   served      the same, for the line that gets the unit
+--   endedEarly, rested, resumed   what the calls between steps do to a line
 --   newTask, newTasks   lines before their first instant, numbered from a number on
 --   blankTask   what stands past the end of a list of lines under way
 use Prim.Native.Nat.{ℕ, _+_, _-_, _%_}
