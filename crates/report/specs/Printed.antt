@@ -73,8 +73,12 @@ abbrev pub passedLine : List ℕ
 passedLine = row (codes "passed") []
 
 -- The number, the layer and the two places that are reported of a fault.
+-- The figures of a fault: its number, its layer and its two places.
+abbrev pub codeFigures : FaultCode → List ℕ
+codeFigures c = c .number ∷ c .layer ∷ c .first ∷ c .second ∷ []
+
 abbrev pub codeLine : FaultCode → List ℕ
-codeLine c = row (codes "fault") (c .number ∷ c .layer ∷ c .first ∷ c .second ∷ [])
+codeLine c = row (codes "fault") (codeFigures c)
 
 abbrev pub faultLine : Fault → List ℕ
 faultLine f = codeLine (codeOf f)

@@ -4,7 +4,7 @@ ghost use Prim.Native.Nat.{_+_, _≤_};
 ghost use mathlib.Core.Path.{_≡_};
 ghost use lib.ListN.{length};
 ghost use Rattle.report.specs.Pages.{Room, Wrote};
-ghost use Rattle.report.specs.Printed.{cycleLine, kindWord, taskFigures, taskLine, taskLines, planText};
+ghost use Rattle.report.specs.Printed.{codeFigures, cycleLine, kindWord, taskFigures, taskLine, taskLines, planText};
 ghost use Rattle.report.specs.Printed.{passedLine, faultLine, verdictLine, verdictRoom, outcomeText};
 use crate::page::Page;
 use model::fault::Fault;
@@ -74,18 +74,23 @@ fn passed_line(page: &mut Page)
 }
 
 // A fault's figures fit 64 bits, so that no bound on them is asked for.
+fn code_figures(code: &FaultCode) -> [u64; 4]
+    ensures { λ r. ⌜ r ≡ codeFigures (now (code .entry)) ⌝ }
+{
+    [
+        code.number as u64,
+        code.layer as u64,
+        code.first,
+        code.second,
+    ]
+}
+
 pub(crate) fn fault_line(page: &mut Page, fault: Fault)
     requires { ⌜ now page .at + verdictRoom ≤ length (now (now page .out)) ⌝ }
     ensures wrote { λ _. ⌜ Wrote (now (page .entry)) (now (page .exit)) (faultLine fault) ⌝ }
     ensures short { λ _. ⌜ length (faultLine fault) ≤ verdictRoom ⌝ }
 {
-    let FaultCode {
-        number,
-        layer,
-        first,
-        second,
-    } = fault.code();
-    page.row(b"fault", &[number as u64, layer as u64, first, second]);
+    page.row(b"fault", &code_figures(&fault.code()));
 }
 
 // The rehearsal: it passed, or its fault.
