@@ -7,45 +7,15 @@ run and under every Python 3: the generator below is our own.
     make_bench_cases.py           the batch, on standard output
     make_bench_cases.py --list    one line per case (number, size, group) instead
 """
-import sys
 from math import gcd
 
-MAX_BATCH = 120_000  # bytes
+from batch import Dice, add, cases, print_batch, sheet
+
 TOP = 10**12         # the last instant
 HUGE = 2**64 - 1
 
 
-class Dice:
-    """A small fixed generator (64-bit LCG, high bits)."""
-
-    def __init__(self, seed):
-        self.state = seed
-
-    def below(self, n):
-        self.state = (self.state * 6364136223846793005 + 1442695040888963407) % 2**64
-        return (self.state >> 33) % n
-
-    def between(self, low, high):
-        return low + self.below(high - low + 1)
-
-    def pick(self, items):
-        return items[self.below(len(items))]
-
-
 dice = Dice(20241117)
-cases = []  # (group, script)
-
-
-def add(group, script):
-    cases.append((group, script if isinstance(script, bytes) else script.encode("ascii")))
-
-
-def sheet(policy, rows):
-    """rows of (kind, r, C, D, T); names are made up."""
-    lines = [policy]
-    for number, (kind, r, c, d, t) in enumerate(rows, 1):
-        lines.append(f"{kind} {'reg' if kind == 'R' else 'ord'}{number} {r} {c} {d} {t}")
-    return "\n".join(lines) + "\n"
 
 
 def script(policy, rows, start, commands):
@@ -424,13 +394,7 @@ def random_scripts():
 def main():
     for group in (printed, starts, early_ends, rests, misses, passes, forms, frames, random_scripts):
         group()
-    batch = b"".join(b"%d\n" % len(text) + text for _, text in cases)
-    assert len(batch) < MAX_BATCH, len(batch)
-    if sys.argv[1:] == ["--list"]:
-        for number, (group, text) in enumerate(cases, 1):
-            print(number, len(text), group)
-    else:
-        sys.stdout.buffer.write(batch)
+    print_batch()
 
 
 main()

@@ -7,43 +7,12 @@ every run and under every Python 3: the generator below is our own.
     make_cases.py           the batch, on standard output
     make_cases.py --list    one line per case (number, size, group) instead
 """
-import sys
 from math import gcd
 
-MAX_BATCH = 120_000  # bytes
-
-
-class Dice:
-    """A small fixed generator (64-bit LCG, high bits)."""
-
-    def __init__(self, seed):
-        self.state = seed
-
-    def below(self, n):
-        self.state = (self.state * 6364136223846793005 + 1442695040888963407) % 2**64
-        return (self.state >> 33) % n
-
-    def between(self, low, high):
-        return low + self.below(high - low + 1)
-
-    def pick(self, items):
-        return items[self.below(len(items))]
+from batch import Dice, add, print_batch, sheet
 
 
 dice = Dice(20240611)
-cases = []  # (group, text)
-
-
-def add(group, text):
-    cases.append((group, text if isinstance(text, bytes) else text.encode("ascii")))
-
-
-def sheet(policy, rows):
-    """rows of (kind, r, C, D, T); names are made up."""
-    lines = [policy]
-    for number, (kind, r, c, d, t) in enumerate(rows, 1):
-        lines.append(f"{kind} {'reg' if kind == 'R' else 'ord'}{number} {r} {c} {d} {t}")
-    return "\n".join(lines) + "\n"
 
 
 def both(group, rows):
@@ -472,15 +441,7 @@ def main():
     add_random("random full", 14, random_full)
     add_random("random regular", 36, random_regular)
     damaged(40)
-
-    records = [b"%d\n" % len(text) + text for _, text in cases]
-    batch = b"".join(records)
-    assert len(batch) < MAX_BATCH, len(batch)
-    if sys.argv[1:] == ["--list"]:
-        for number, (group, text) in enumerate(cases, 1):
-            print(number, len(text), group)
-    else:
-        sys.stdout.buffer.write(batch)
+    print_batch()
 
 
 main()
