@@ -27,12 +27,14 @@ pub(crate) fn last_after(last: &mut LastUnit, event: Event) -> Option<u32>
     ensures last { λ _. ⌜ now (last .exit) ≡ lastAfter (now (last .entry)) event ⌝ }
     ensures ends { λ r. ⌜ r ≡ endedBy (now (last .entry)) event ⌝ }
 {
-    match (*last, event) {
+    match (&mut *last, event) {
         (LastUnit::Running { line }, Event::EarlyEnd) => {
+            let line = *line;
             *last = LastUnit::Ended { line };
             Some(line)
         }
         (LastUnit::Running { line }, Event::SetAside { line: aside }) => {
+            let line = *line;
             if line == aside {
                 *last = LastUnit::Ended { line };
             }
