@@ -5,13 +5,14 @@
 --   short_job, long_job        two jobs that DM turned round would swap
 --   starved                  two lines of which the second never gets a unit
 --   two_lines, eight_steps     two lines of which the second is started late, early and late
---   eight_lines               eight lines, two of them regular, with offsets and deadlines of the regular two
+--   published                the published example, with offsets and deadlines of its regular lines
 --   Cases                    all cases, as one list
 use Rattle.std.specs.Prelude.{◌≡◌, ℕ, ◌+◌, ◌-◌, ◌<◌, Bool, true, false, List, [], ◌∷◌, map, Some, None, Ok, Err, codes}
 use Rattle.model.specs.declared.fault.Fault.TheVariants.{TextNotEnded, Malformed, OutOfRange, HyperperiodTooLong, PairTooLong, NoOffsets, DeadlineTooShort, Overload, Missed, ClockAtEnd, NoJob, NoSuchLine, RegularLine, RestAsItIs}
 use Rattle.model.specs.declared.job.Job.{Job}
 use Rattle.model.specs.declared.line.Line.{Line}
 use Rattle.model.specs.declared.policy.Policy.{Policy}
+use Rattle.model.specs.Faults.{code_of}
 use Rattle.model.specs.Rankings.{Lawful, DmRule, smaller, dm_ahead, ed_ahead}
 use Rattle.model.specs.TaskSets.{task_set}
 use Rattle.windows.specs.Euclid.{gcd_of}
@@ -25,12 +26,12 @@ use Rattle.executive.specs.Questions.{figures_in, coming_of, worst_of}
 use Rattle.runs.specs.Calls.{begun}
 use Rattle.runs.specs.Histories.{History, clock_of, line_at, units_in, rests_after, release, releases_in}
 use Rattle.runs.specs.Jitter.{deviations}
-use Rattle.runs.specs.RehearsalRules.{tasks_at, units_left}
-use Rattle.runs.specs.Rehearsals.{largest_offset}
+use Rattle.runs.specs.RehearsalRules.{state_at, units_left}
+use Rattle.runs.specs.Rehearsals.{last_offset}
 use Rattle.runs.specs.Starts.{starts_of}
 use Rattle.runs.specs.Tasks.{job_of}
 use Rattle.report.specs.Reports.{report_of}
-use Rattle.cases.specs.Wording.{regular, ordinary, dm, ed, rehearsing, regular_job, ordinary_job, unit, idle, begins, goes_on, ends, whole, done, refused, Runs, counted, state_after, starts, figures}
+use Rattle.cases.specs.Wording.{regular, ordinary, dm, ed, reported, rehearsing, regular_job, ordinary_job, unit, idle, begins, goes_on, ends, whole, done, refused, Runs, counted, state_after, starts, figures}
 
 -- The sheet that the rule book prints.
 abbrev pub printed_text : List ℕ
@@ -71,9 +72,9 @@ two_lines = ordinary 0 1 2 2 ∷ ordinary 0 1 3 3 ∷ []
 abbrev pub eight_steps : History
 eight_steps = whole 1 ∷ whole 2 ∷ whole 1 ∷ whole 2 ∷ whole 1 ∷ idle ∷ whole 1 ∷ whole 2 ∷ []
 
--- Eight lines, two of them regular: the offsets r and q and the deadlines d and e are those of the regular two.
-abbrev pub eight_lines : ℕ → ℕ → ℕ → ℕ → List Line
-eight_lines r q d e = regular r 2 d 16 ∷ ordinary 0 1 16 16 ∷ regular q 2 e 32 ∷ ordinary 0 4 31 32 ∷ ordinary 0 1 32 32 ∷ ordinary 0 4 14 14 ∷ ordinary 0 1 13 14 ∷ ordinary 0 1 8 8 ∷ []
+-- Two regular lines among six ordinary ones, with the offsets r and q and the deadlines d and e of the regular two.
+abbrev pub published : ℕ → ℕ → ℕ → ℕ → List Line
+published r q d e = regular r 2 d 16 ∷ ordinary 0 1 16 16 ∷ regular q 2 e 32 ∷ ordinary 0 4 31 32 ∷ ordinary 0 1 32 32 ∷ ordinary 0 4 14 14 ∷ ordinary 0 1 13 14 ∷ ordinary 0 1 8 8 ∷ []
 
 pub record Cases : Type 0 where
   -- Periods 16 and 4 have the greatest common divisor 4, periods 9 and 4 have 1.
@@ -91,15 +92,18 @@ pub record Cases : Type 0 where
   pub not_enough : Crowded (regular 0 2 4 4) (regular 0 3 8 8)
   -- As regular lines they give 21 (1, 2), whatever the policy, the releases and the deadlines.
   pub pair_too_long : (p : Policy) (r q d e : ℕ) → plan_of (task_set p (regular r 2 d 4 ∷ regular q 3 e 8 ∷ [])) ≡ Err (PairTooLong 1 2)
+  pub pair_too_long_code : code_of (PairTooLong 1 2) ≡ reported 21 2 1 2
   -- Of the regular lines 2 to 5 the pairs (2, 5) and (3, 4) are too long: the lower line decides, and ordinary lines count.
   pub first_pair : plan_of (dm (ordinary 0 1 8 8 ∷ regular 0 1 8 8 ∷ regular 0 4 8 8 ∷ regular 0 5 8 8 ∷ regular 0 8 8 8 ∷ [])) ≡ Err (PairTooLong 2 5)
   -- Three regular lines of C 1, T 2 give 22, whatever the policy, the releases and the deadlines, though
   -- any two of them have offsets.
   pub pair_has_offsets : Room (regular 0 1 2 2) (regular 0 1 2 2)
   pub no_offsets : (p : Policy) (r q s d e f : ℕ) → plan_of (task_set p (regular r 1 d 2 ∷ regular q 1 e 2 ∷ regular s 1 f 2 ∷ [])) ≡ Err NoOffsets
+  pub no_offsets_code : code_of NoOffsets ≡ reported 22 2 0 0
   -- Periods 64 and 15625 make a hyperperiod of 1,000,000, which is allowed; with 128 behind them they give 20 (3).
   pub hyperperiod_at_limit : plan_of (dm (ordinary 0 1 1 64 ∷ ordinary 0 1 1 15625 ∷ [])) ≡ Ok (dm (ordinary 0 1 1 64 ∷ ordinary 0 1 1 15625 ∷ []))
   pub hyperperiod_too_long : plan_of (dm (ordinary 0 1 1 64 ∷ ordinary 0 1 1 15625 ∷ ordinary 0 1 1 128 ∷ [])) ≡ Err (HyperperiodTooLong 3)
+  pub hyperperiod_too_long_code : code_of (HyperperiodTooLong 3) ≡ reported 20 2 3 0
   -- The hyperperiod is refused before a pair, and want of offsets before a deadline.
   pub hyperperiod_before_pair : plan_of (dm (regular 0 1 1 1009 ∷ regular 0 1 1 1013 ∷ [])) ≡ Err (HyperperiodTooLong 2)
   pub offsets_before_deadline : plan_of (dm (regular 0 1 2 2 ∷ regular 0 1 2 2 ∷ regular 0 1 2 2 ∷ ordinary 0 1 1 2 ∷ [])) ≡ Err NoOffsets
@@ -109,6 +113,7 @@ pub record Cases : Type 0 where
   pub printed_report : report_of printed_text ≡ codes "H 16\n1 R 0 3 15 16\n2 R 3 1 4 4\n3 R 4 2 8 8\n4 N 0 2 16 16\npassed\n"
   -- Under DM a regular line of C 3, T 16 beside an ordinary one of D 3 gives 23 (1).
   pub deadline_too_short : plan_of (dm (regular 0 3 16 16 ∷ ordinary 0 1 3 16 ∷ [])) ≡ Err (DeadlineTooShort 1)
+  pub deadline_too_short_code : code_of (DeadlineTooShort 1) ≡ reported 23 2 1 0
   -- Beside one of D 4 it gets D* = 3.
   pub deadline_3 : plan_of (dm (regular 0 3 16 16 ∷ ordinary 0 1 4 16 ∷ [])) ≡ Ok (dm (regular 0 3 3 16 ∷ ordinary 0 1 4 16 ∷ []))
   -- Of two lines that come to D* < C the lower is named; an ordinary deadline of 1 makes D* = 0.
@@ -119,8 +124,10 @@ pub record Cases : Type 0 where
   pub alone_ed : plan_of (ed (regular 0 3 16 16 ∷ [])) ≡ Ok (ed (regular 0 3 3 16 ∷ []))
   -- Ordinary lines of C 3, T 4 and C 2, T 4 give 25, under every ranking and whatever their releases and deadlines.
   pub overload : (ahead : Job → Job → Bool) (r q d e : ℕ) → rehearsing ahead (ordinary r 3 d 4 ∷ ordinary q 2 e 4 ∷ []) ≡ Err Overload
+  pub overload_code : code_of Overload ≡ reported 25 3 0 0
   -- Ordinary lines of C 2, D 2, T 4 and C 2, D 3, T 4 give 26 (3, 2) under DM.
   pub missed : rehearsing dm_ahead (ordinary 0 2 2 4 ∷ ordinary 0 2 3 4 ∷ []) ≡ Err (Missed 3 2)
+  pub missed_code : code_of (Missed 3 2) ≡ reported 26 3 3 2
   -- With D 4 in place of D 3 the load is still equal to H, and the rehearsal passes.
   pub full_load_passes : rehearsing dm_ahead (ordinary 0 2 2 4 ∷ ordinary 0 2 4 4 ∷ []) ≡ Ok tt
   -- ED by deadlines alone would put an ordinary job ahead of a regular one; ED does not, and no lawful ranking does.
@@ -132,15 +139,15 @@ pub record Cases : Type 0 where
   pub turned_round_not_dm : (ahead : Job → Job → Bool) → ahead long_job short_job ≡ true → DmRule ahead → ⊥
   -- Striking out comes before releasing: where D* = T, the step at 3 strikes the job of line 2 out and makes its next.
   pub struck_at_3 : Runs starved 0 (begins 1 ∷ ends 1 ∷ begins 1 ∷ unit 1 false true 1 ∷ [])
-  pub next_job_at_3 : units_left (tasks_at dm_ahead starved 4) ≡ 0 ∷ 1 ∷ []
-  pub miss_counted : map (λ x. x.counts) (tasks_at dm_ahead starved 4) ≡ counted 2 2 0 ∷ counted 2 0 1 ∷ []
-  pub miss_told : counts_in 2 (tasks_at dm_ahead starved 4) ≡ Ok (record { made = 2; ended = 0; missed = 1; aside = 0; pending = 1 })
+  pub next_job_at_3 : units_left (state_at dm_ahead starved 4) ≡ 0 ∷ 1 ∷ []
+  pub miss_counted : map (λ x. x.counts) (state_at dm_ahead starved 4) ≡ counted 2 2 0 ∷ counted 2 0 1 ∷ []
+  pub miss_told : counts_in 2 (state_at dm_ahead starved 4) ≡ Ok (record { made = 2; ended = 0; missed = 1; aside = 0; pending = 1 })
   -- A job that is past its deadline is struck out also where nobody gets the unit.
   pub struck_when_idle : Runs (ordinary 0 2 1 4 ∷ []) 0 (begins 1 ∷ unit 0 false false 1 ∷ [])
   -- A ranking sees a job's line, kind, release, D* and T.
-  pub job_seen : map job_of (tasks_at dm_ahead (ordinary 2 4 5 16 ∷ []) 3) ≡ ordinary_job 1 2 5 ∷ []
+  pub job_seen : map job_of (state_at dm_ahead (ordinary 2 4 5 16 ∷ []) 3) ≡ ordinary_job 1 2 5 ∷ []
   -- The first mark of the rehearsal goes by the largest first release.
-  pub largest_offset_lem : largest_offset (ordinary 3 1 9 9 ∷ ordinary 5 1 9 9 ∷ ordinary 2 1 9 9 ∷ []) ≡ 5
+  pub first_mark_offset : last_offset (ordinary 3 1 9 9 ∷ ordinary 5 1 9 9 ∷ ordinary 2 1 9 9 ∷ []) ≡ 5
   -- An empty text has no end, nor has one without a last byte 10.
   pub empty_text : read_sheet (codes "") ≡ Err TextNotEnded
   pub text_not_ended : read_sheet (codes "DM") ≡ Err TextNotEnded
@@ -199,7 +206,8 @@ pub record Cases : Type 0 where
   pub rests_no_more : (rests_after (done (Rest 4) ∷ done (Resume 4) ∷ []) 4 ≡ false) × (rests_after (refused (Rest 4) (NoSuchLine 4) ∷ []) 4 ≡ false)
   -- Ordinary lines of C 1, D 2, T 2 and C 1, D 3, T 3 under DM: in eight steps line 2 starts at 1, 3 and 7, in
   -- the rounds 0, 1 and 2. Its deviations are 1 too few and 1 too many, and line 1, without any, is not the worst.
-  pub starts_at_1_3_7 : Runs two_lines 0 eight_steps
+  pub starts_at_1_3_7 : Runs (ordinary 0 1 2 2 ∷ ordinary 0 1 3 3 ∷ []) 0
+      (whole 1 ∷ whole 2 ∷ whole 1 ∷ whole 2 ∷ whole 1 ∷ idle ∷ whole 1 ∷ whole 2 ∷ [])
   pub rounds_0_1_2 : starts_of (ordinary 0 1 3 3) 2 0 eight_steps ≡ starts 0 1 ∷ starts 1 3 ∷ starts 2 7 ∷ []
   pub both_deviations : deviations (ordinary 0 1 3 3) (starts 0 1 ∷ starts 1 3 ∷ starts 2 7 ∷ []) ≡ 1 ∷ 1 ∷ []
   pub figures_of_line_2 : figures_in 2 (state_after two_lines 0 eight_steps) ≡ Ok (figures 2 2 1 200 6)
@@ -215,10 +223,10 @@ pub record Cases : Type 0 where
   pub coming_7_2 : coming_of (begun 5 printed_plan) ≡ Some (record { instant = 7; line = 2 })
   pub coming_lower_line : coming_of (begun 16 printed_plan) ≡ Some (record { instant = 16; line = 1 })
   pub coming_none : coming_of (state_after (ordinary 0 1 2 2 ∷ []) 0 (done (Rest 1) ∷ [])) ≡ None
-  -- Eight lines, two of them regular, are planned with the offsets 0 and 2, under DM with the deadlines 7 and 7,
-  -- under ED with 2 and 2; both plans pass their rehearsals over the hyperperiod 224.
-  pub eight_lines_dm : plan_of (dm (eight_lines 0 0 16 32)) ≡ Ok (dm (eight_lines 0 2 7 7))
-  pub eight_lines_ed : plan_of (ed (eight_lines 0 0 16 32)) ≡ Ok (ed (eight_lines 0 2 2 2))
-  pub eight_lines_hyperperiod : hyperperiod (eight_lines 0 2 7 7) ≡ 224
-  pub eight_lines_dm_passes : rehearsing dm_ahead (eight_lines 0 2 7 7) ≡ Ok tt
-  pub eight_lines_ed_passes : rehearsing ed_ahead (eight_lines 0 2 2 2) ≡ Ok tt
+  -- The published example is planned with the offsets 0 and 2, under DM with the deadlines 7 and 7, under ED
+  -- with 2 and 2; both plans pass their rehearsals over the hyperperiod 224.
+  pub published_dm : plan_of (dm (published 0 0 16 32)) ≡ Ok (dm (published 0 2 7 7))
+  pub published_ed : plan_of (ed (published 0 0 16 32)) ≡ Ok (ed (published 0 2 2 2))
+  pub published_cycle : hyperperiod (published 0 2 7 7) ≡ 224
+  pub published_dm_passes : rehearsing dm_ahead (published 0 2 7 7) ≡ Ok tt
+  pub published_ed_passes : rehearsing ed_ahead (published 0 2 2 2) ≡ Ok tt

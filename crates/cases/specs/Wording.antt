@@ -1,6 +1,7 @@
 -- Short words, so that a case reads as the rule book writes it.
 --   regular, ordinary        a line: r, C, D and T
 --   dm, ed                   lines under a policy
+--   reported                 a fault: its number, its layer and its two places
 --   rehearsing               the rehearsal of lines under a ranking
 --   regular_job, ordinary_job  a job: its line, its release and its D*
 --   unit                     a step and its reply
@@ -12,6 +13,7 @@
 --   starts, figures          a start: its round and its instant; five jitter figures
 use Rattle.std.specs.Prelude.{ℕ, Bool, true, false, List, [], ◌∷◌, Result}
 use Rattle.model.specs.declared.fault.Fault.{Fault}
+use Rattle.model.specs.declared.fault.FaultCode.{FaultCode}
 use Rattle.model.specs.declared.job.Job.{Job}
 use Rattle.model.specs.declared.kind.Kind.{Kind}
 use Rattle.model.specs.declared.kind.Kind.TheVariants.{Ordinary, Regular}
@@ -49,6 +51,10 @@ dm = task_set Dm
 -- Lines under ED.
 abbrev pub ed : List Line → TaskSet
 ed = task_set Ed
+
+-- What is reported of a fault: its number, its layer and its two places.
+abbrev pub reported : ℕ → ℕ → ℕ → ℕ → FaultCode
+reported n l p q = record { number = n; layer = l; first = p; second = q }
 
 -- What the rehearsal of these lines comes to under a ranking.
 abbrev pub rehearsing : (Job → Job → Bool) → List Line → Result (Unit {0}) Fault

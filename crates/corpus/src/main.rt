@@ -2,18 +2,18 @@
 //! is a sequence of records, each the length of a text in decimal, the byte 10, and the text. For each
 //! record a line `== K` and the answer are printed.
 
-use report::planner::Planner;
+use report::desk::Desk;
 use script::next_record;
 use std::io::{Read, Write};
 
 fn answer_one(
     rt: &HostRuntime,
-    planner: &mut Planner,
+    desk: &mut Desk,
     k: usize,
     text: &[u8],
 ) -> anyhow::Result<()> {
     let mut out = [0; 1024];
-    let written = planner.print(text, &mut out)?;
+    let written = desk.print(text, &mut out)?;
     println!(rt; "== {k}")?;
     let mut output = rt.stdout();
     output.write_all(&out[0..written])?;
@@ -21,13 +21,13 @@ fn answer_one(
 }
 
 fn answer_all(rt: &HostRuntime, batch: &[u8]) -> anyhow::Result<()> {
-    let mut planner = Planner::new(rt.alloc())?;
+    let mut desk = Desk::new(rt.alloc())?;
     let mut rest = batch;
     for k in 1..=batch.len() {
         let Some((text, behind)) = next_record(rest) else {
             break;
         };
-        answer_one(rt, &mut planner, k, text)?;
+        answer_one(rt, &mut desk, k, text)?;
         rest = behind;
     }
     Ok(())

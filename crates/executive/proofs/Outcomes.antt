@@ -7,7 +7,7 @@ use Rattle.model.specs.declared.fault.Fault.{Fault}
 use Rattle.model.specs.declared.fault.Fault.TheVariants.{ClockAtEnd, NoJob, NoSuchLine, RegularLine, RestAsItIs}
 use Rattle.model.specs.declared.job.Job.{Job}
 use Rattle.model.specs.declared.line.Line.{Line}
-use Rattle.executive.specs.declared.between.JobEnd.TheVariants.{EarlyEnd, SetAside}
+use Rattle.executive.specs.declared.between.Event.TheVariants.{EarlyEnd, SetAside}
 use Rattle.runs.specs.declared.call.LastUnit.{LastUnit}
 use Rattle.runs.specs.declared.call.LastUnit.TheVariants.{Idle, Running, Ended}
 use Rattle.runs.specs.declared.call.Reply.TheVariants.{Done, Refused}
@@ -17,8 +17,8 @@ use Rattle.runs.specs.declared.jitter.Track.{Track}
 use Rattle.executive.specs.declared.executive.Executive.{Executive}
 use Rattle.executive.specs.declared.slot.Slot.{Slot}
 use Rattle.runs.specs.declared.task.Task.{Task}
-use Rattle.runs.specs.Calls.{State, alike, aside_of, by_change, end_of, is_line, last_clock, last_of, line_to_change, on_line, rest_of, resume_of, state_of, step_of}
-use Rattle.executive.specs.Changes.{ended_by, last_after}
+use Rattle.runs.specs.Calls.{State, Outcome, aside_of, end_of, is_line, last_clock, last_of, on_line, rest_of, resume_of, state_of, step_of}
+use Rattle.executive.specs.Changes.{ended_by, last_after, alike, line_to_change}
 use Rattle.executive.specs.Executives.{AllTracked, Standing, StillPending, lines_of}
 use Rattle.executive.specs.Slots.{AllKept, blank_slot, tasks_of}
 use Rattle.runs.specs.Jitter.{note_start}
@@ -60,21 +60,40 @@ aside_as n Idle = refl
 aside_as n (Ended l) = refl
 aside_as n (Running l) = refl
 
+-- by whether a line may be changed
+abbrev by_change : Result ℕ Fault → State → Outcome → Outcome
+by_change (Ok _) s done = done
+by_change (Err e) s done = (s, Refused e)
+
+-- there is the line, it is regular, and it is so already
+module _ (f₁ f₂ f₃ : Fault) (number : ℕ) where
+  abbrev decided : Bool → Bool → Bool → Result ℕ Fault
+  decided b₁ b₂ b₃ = cond b₁ (cond b₂ (Err f₂) (cond b₃ (Err f₃) (Ok number))) (Err f₁)
+
+  by_change_lem : (b₁ b₂ b₃ : Bool) (s : State) (done : Outcome) → cond b₁ (cond b₂ (s, Refused f₂) (cond b₃ (s, Refused f₃) done)) (s, Refused f₁) ≡ by_change (decided b₁ b₂ b₃) s done
+  by_change_lem false b₂ b₃ s done = refl
+  by_change_lem true true b₃ s done = refl
+  by_change_lem true false true s done = refl
+  by_change_lem true false false s done = refl
+
+  may_change : (b₁ b₂ b₃ : Bool) (line : ℕ) → Ok line ≡ decided b₁ b₂ b₃ → (line ≡ number) × (b₁ ≡ true) × (b₂ ≡ false)
+  may_change false b₂ b₃ line e = let z : ◌≡◌ {A = ℕ} 0 1 = cc in absurd (omega arith)
+  may_change true true b₃ line e = let z : ◌≡◌ {A = ℕ} 0 1 = cc in absurd (omega arith)
+  may_change true false true line e = let z : ◌≡◌ {A = ℕ} 0 1 = cc in absurd (omega arith)
+  may_change true false false line e = let same : line ≡ number = cc in (same, refl, refl)
+
+pub rest_as : (number : ℕ) (s : State) → rest_of number s ≡ by_change (line_to_change true number s.tasks) s (state_of s.clock (on_line number rested s.tasks) (aside_of number s.last) s.tracks, Done)
+rest_as number s = let x = get_or s.tasks (number - 1) blank_task in by_change_lem (NoSuchLine number) (RegularLine number) (RestAsItIs number) number (is_line (length s.tasks) number) (is_regular x.line) (alike x.resting true) s _
+
+pub resume_as : (number : ℕ) (s : State) → resume_of number s ≡ by_change (line_to_change false number s.tasks) s (state_of s.clock (on_line number resumed s.tasks) s.last s.tracks, Done)
+resume_as number s = let x = get_or s.tasks (number - 1) blank_task in by_change_lem (NoSuchLine number) (RegularLine number) (RestAsItIs number) number (is_line (length s.tasks) number) (is_regular x.line) (alike x.resting false) s _
+
 -- a line that may be changed is the line that was asked for, and ordinary
 pub changed_line : (resting : Bool) (number : ℕ) (xs : List Task) (line : ℕ) → Ok line ≡ line_to_change resting number xs → (line ≡ number) × (0 < number) × (number ≤ length xs) × (is_regular (get_or xs (number - 1) blank_task).line ≡ false)
-changed_line resting number xs line =
-    let x : Task = get_or xs (number - 1) blank_task in
-    cond_both (is_line (length xs) number) _ _ Says
-    (λ is. cond_both (is_regular x.line) _ _ Says (λ _. refused (RegularLine number))
-    (λ ordinary. cond_both (alike x.resting resting) _ _ Says (λ _. refused (RestAsItIs number))
-    (λ _ e. let same : line ≡ number = cc in (same, leb-true 1 number (and_parts _ _ is).0, leb-true number (length xs) (and_parts _ _ is).1, ordinary))))
-    (λ _. refused (NoSuchLine number))
-  where
-    Says : Result ℕ Fault → Type 0
-    Says q = Ok line ≡ q → (line ≡ number) × (0 < number) × (number ≤ length xs) × (is_regular (get_or xs (number - 1) blank_task).line ≡ false)
-
-    refused : (f : Fault) → Says (Err f)
-    refused f e = let z : ◌≡◌ {A = ℕ} 0 1 = cc in absurd (omega arith)
+changed_line resting number xs line e =
+    let x = get_or xs (number - 1) blank_task in
+    let so = may_change (NoSuchLine number) (RegularLine number) (RestAsItIs number) number (is_line (length xs) number) (is_regular x.line) (alike x.resting resting) line e in
+    (so.0, leb-true 1 number (and_parts _ _ so.1).0, leb-true number (length xs) (and_parts _ _ so.1).1, so.2)
 
 module _ {X : Type 0} (x : Executive X) (n : ℕ) (is : n ≡ line_count x) (ys zs : List Slot) (long : length ys ≡ length (mid_of 0 (n - 0) x.slots)) where
   abbrev part : List Slot
@@ -145,7 +164,7 @@ module _ {X : Type 0} (x : Executive X) (n : ℕ) (is : n ≡ line_count x) (ys 
         (λ i h e. let here : i ≡ number - 1 = omega arith in ap (λ k. is_regular (get_or (tasks_of (slots_of x)) k blank_task).line) here ∙ so.3) tasks_rest)
 
     pub rest_next : rest_of number (view_of x) ≡ (state_of x.clock (tasks_of (take (line_count x) (ys ++ zs))) u (tracks_of x), Done)
-    rest_next = ap (λ q. by_change q (view_of x) (state_of x.clock (on_line number rested (tasks_of (slots_of x))) (aside_of number x.last) (tracks_of x), Done)) (sym at)
+    rest_next = rest_as number (view_of x) ∙ ap (λ q. by_change q (view_of x) (state_of x.clock (on_line number rested (tasks_of (slots_of x))) (aside_of number x.last) (tracks_of x), Done)) (sym at)
         ∙ ap (λ s. (s, Done)) (leaves x.clock _ u _ (tracks_of x) tasks_rest last_rest)
 
   module _ (number line : ℕ) (found : Ok line ≡ line_to_change false number (tasks_of part)) (tasks : tasks_of ys ≡ on_line line resumed (tasks_of part)) where
@@ -160,13 +179,13 @@ module _ {X : Type 0} (x : Executive X) (n : ℕ) (is : n ≡ line_count x) (ys 
         (resumed_stands (vec_items x.plan.lines) x.clock (slots_of x) ys x.last (tracks_of x) (standing x) (kept x.clock (subst (AllKept x.clock) (sym (lent x n is)) (standing x).kept)) number tasks_resume)
 
     pub resume_next : resume_of number (view_of x) ≡ (state_of x.clock (tasks_of (take (line_count x) (ys ++ zs))) x.last (tracks_of x), Done)
-    resume_next = ap (λ q. by_change q (view_of x) (state_of x.clock (on_line number resumed (tasks_of (slots_of x))) x.last (tracks_of x), Done)) (sym at_rest)
+    resume_next = resume_as number (view_of x) ∙ ap (λ q. by_change q (view_of x) (state_of x.clock (on_line number resumed (tasks_of (slots_of x))) x.last (tracks_of x), Done)) (sym at_rest)
         ∙ ap (λ s. (s, Done)) (leaves x.clock _ x.last _ (tracks_of x) tasks_resume refl)
 
 -- a refused rest or resume
 module _ {X : Type 0} (x : Executive X) (n : ℕ) (is : n ≡ line_count x) (number : ℕ) (e : Fault) where
   pub rest_refused : Err e ≡ line_to_change true number (tasks_of (mid_of 0 (n - 0) x.slots)) → rest_of number (view_of x) ≡ (view_of x, Refused e)
-  rest_refused found = ap (λ q. by_change q (view_of x) (state_of x.clock (on_line number rested (tasks_of (slots_of x))) (aside_of number x.last) (tracks_of x), Done)) (sym (found ∙ ap (λ w. line_to_change true number (tasks_of w)) (lent x n is)))
+  rest_refused found = rest_as number (view_of x) ∙ ap (λ q. by_change q (view_of x) (state_of x.clock (on_line number rested (tasks_of (slots_of x))) (aside_of number x.last) (tracks_of x), Done)) (sym (found ∙ ap (λ w. line_to_change true number (tasks_of w)) (lent x n is)))
 
   pub resume_refused : Err e ≡ line_to_change false number (tasks_of (mid_of 0 (n - 0) x.slots)) → resume_of number (view_of x) ≡ (view_of x, Refused e)
-  resume_refused found = ap (λ q. by_change q (view_of x) (state_of x.clock (on_line number resumed (tasks_of (slots_of x))) x.last (tracks_of x), Done)) (sym (found ∙ ap (λ w. line_to_change false number (tasks_of w)) (lent x n is)))
+  resume_refused found = resume_as number (view_of x) ∙ ap (λ q. by_change q (view_of x) (state_of x.clock (on_line number resumed (tasks_of (slots_of x))) x.last (tracks_of x), Done)) (sym (found ∙ ap (λ w. line_to_change false number (tasks_of w)) (lent x n is)))

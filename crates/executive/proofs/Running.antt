@@ -12,7 +12,7 @@ use Rattle.runs.specs.declared.task.Task.{Task}
 use Rattle.runs.specs.Tasks.{blank_task}
 use Rattle.executive.specs.Slots.{tasks_of}
 use Rattle.runs.specs.Steps.{stepped, lowest_due}
-use Rattle.runs.specs.Rehearsals.{miss_at, run_units, same_left, largest_offset}
+use Rattle.runs.specs.Rehearsals.{miss_at, run_units, same_left, last_offset}
 use Rattle.executive.proofs.Places.{slot_at, length_tasks, task_at_lem}
 
 -- what the step at t replied, while the run that was asked for comes to `all`
@@ -60,7 +60,7 @@ module _ (xs ys : List Slot) (i : ℕ) where
   pub left_all : length xs ≤ i → length ys ≤ i → true ≡ left_from i
   left_all p q = sym (ap (λ us. same_left us (drop i (tasks_of ys))) (drop_all i (tasks_of xs) (rw (length_tasks xs) p)) ∙ ap (λ vs. same_left [] vs) (drop_all i (tasks_of ys) (rw (length_tasks ys) q)))
 
-pub largest_offset_le : (ls : List Line) → AllRanged ls → largest_offset ls ≤ 60000
+pub largest_offset_le : (ls : List Line) → AllRanged ls → last_offset ls ≤ 60000
 largest_offset_le [] h = omega arith
 largest_offset_le (l ∷ ls) h =
     let here = h 0 (omega arith) in

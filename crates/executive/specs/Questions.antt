@@ -19,8 +19,8 @@ use Rattle.entries.specs.Entries.{first_entry}
 use Rattle.runs.specs.declared.jitter.Figures.{Figures}
 use Rattle.runs.specs.declared.jitter.Track.{Track}
 use Rattle.runs.specs.declared.task.Task.{Task}
-use Rattle.runs.specs.Calls.{State, is_line, clock_from}
-use Rattle.runs.specs.Histories.{History, Ran, clock_of, rests_after}
+use Rattle.runs.specs.Calls.{State, is_line}
+use Rattle.runs.specs.Histories.{History, Ran, clock_of, rests_after, start_of}
 use Rattle.runs.specs.Jitter.{figures_of, track_figures, no_track}
 use Rattle.runs.specs.Starts.{starts_of}
 use Rattle.runs.specs.Tasks.{blank_task, releases_at}
@@ -39,7 +39,7 @@ figures_in number s = cond (is_line (length s.tasks) number)
 abbrev pub OfTheRun : (Job → Job → Bool) → List Line → State → ℕ → Result Figures Fault → Type 0
 OfTheRun ahead ls s number told = (start : ℕ) (h : History) → Ran ahead ls start h s
     → MatchResult told
-    (λ f. let l : Line = get_or ls (number - 1) blank in (0 < number) × (number ≤ length ls) × (f ≡ figures_of l (starts_of l number (clock_from start) h)))
+    (λ f. let l : Line = get_or ls (number - 1) blank in (0 < number) × (number ≤ length ls) × (f ≡ figures_of l (starts_of l number (start_of start) h)))
     (λ e. (e ≡ NoSuchLine number) × ((0 < number) × (number ≤ length ls) → ⊥))
 
 abbrev pub sooner : Release → Release → Bool

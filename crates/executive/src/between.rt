@@ -1,8 +1,8 @@
 //! The calls between steps, on the slots of the plan's lines and on where the last unit went.
 
 ghost use Rattle.std.specs.Prelude.{◌≡◌, ℕ, ◌-◌, ◌^◌, ◌<◌, ◌≤◌, true, length, slice_index_or};
-ghost use Rattle.runs.specs.Calls.{on_line, change_of, line_to_change};
-ghost use Rattle.executive.specs.Changes.{place_in, last_after, ended_by, InOrder, job_aside};
+ghost use Rattle.runs.specs.Calls.{on_line};
+ghost use Rattle.executive.specs.Changes.{place_in, last_after, ended_by, InOrder, job_aside, change_of, line_to_change};
 ghost use Rattle.executive.specs.Slots.{AllKept, blank_slot, tasks_of};
 ghost use Rattle.runs.specs.Tasks.{ended_early, pending, rested, resumed};
 
@@ -15,23 +15,23 @@ use runs::task::Task;
 
 // How a job is over between steps.
 #[derive(Clone, Copy)]
-pub(crate) enum JobEnd {
+pub(crate) enum Event {
     EarlyEnd,
     SetAside { line: u32 },
 }
 
-// Where the last unit went, after a job's end; and the line whose job ends early, if one does.
-pub(crate) fn last_after(last: &mut LastUnit, end: JobEnd) -> Option<u32>
-    ensures last { last.new ≡ last_after last.old end }
-    ensures ends { result ≡ ended_by last.old end }
+// Where the last unit went, after an event; and the line whose job the event ends early, if it does.
+pub(crate) fn last_after(last: &mut LastUnit, event: Event) -> Option<u32>
+    ensures last { last.new ≡ last_after last.old event }
+    ensures ends { result ≡ ended_by last.old event }
 {
-    match (&mut *last, end) {
-        (LastUnit::Running { line }, JobEnd::EarlyEnd) => {
+    match (&mut *last, event) {
+        (LastUnit::Running { line }, Event::EarlyEnd) => {
             let line = *line;
             *last = LastUnit::Ended { line };
             Some(line)
         }
-        (LastUnit::Running { line }, JobEnd::SetAside { line: aside }) => {
+        (LastUnit::Running { line }, Event::SetAside { line: aside }) => {
             let line = *line;
             if line == aside {
                 *last = LastUnit::Ended { line };
@@ -94,7 +94,7 @@ pub(crate) fn end_early(slots: &mut [Slot], line: u32)
 }
 
 // Line `line` rests.
-pub(crate) fn put_to_rest(slots: &mut [Slot], line: u32)
+pub(crate) fn set_aside(slots: &mut [Slot], line: u32)
     requires kept { InOrder slots.old }
     requires line { (0 < line) × (line ≤ length slots.old) }
     ensures tasks { tasks_of slots.new ≡ on_line line rested (tasks_of slots.old) }
@@ -104,7 +104,7 @@ pub(crate) fn put_to_rest(slots: &mut [Slot], line: u32)
 }
 
 // Line `line` rests no more.
-pub(crate) fn end_rest(slots: &mut [Slot], line: u32)
+pub(crate) fn take_up(slots: &mut [Slot], line: u32)
     requires kept { InOrder slots.old }
     requires line { (0 < line) × (line ≤ length slots.old) }
     ensures tasks { tasks_of slots.new ≡ on_line line resumed (tasks_of slots.old) }

@@ -7,7 +7,7 @@ ghost use Rattle.model.specs.Ranges.{Ranged, AllRanged};
 ghost use Rattle.executive.specs.Slots.{tasks_of, AllKept};
 ghost use Rattle.runs.specs.Steps.{stepped};
 ghost use Rattle.runs.specs.RehearsalRules.{OnlyRehearsed};
-ghost use Rattle.runs.specs.Rehearsals.{share_of, load_of, largest_offset, miss_at, run_units, same_left, and_then, between_marks as betweenMarksOf, rehearsal_of};
+ghost use Rattle.runs.specs.Rehearsals.{share_of, load_of, last_offset, miss_at, run_units, same_left, and_then, between_marks as betweenMarksOf, rehearsal_of};
 
 use crate::slot::{NO_SLOT, Slot, set_up};
 use crate::step::step;
@@ -36,8 +36,8 @@ fn load(lines: &[Line], h: u32) -> u64
     sum
 }
 
-fn largest_offset(lines: &[Line]) -> u32
-    ensures { result ≡ largest_offset lines.now }
+fn last_offset(lines: &[Line]) -> u32
+    ensures { result ≡ last_offset lines.now }
 {
     let mut largest: u32 = 0;
     for line in lines {
@@ -122,7 +122,7 @@ pub(crate) fn rehearse_lines<R: Ranking>(lines: &[Line], ranking: &R, h: u32) ->
     let mut saved = slots;
     let slots = &mut slots[..n];
     set_up(slots, lines, 0);
-    let mark = largest_offset(lines) as u64 + h as u64;
+    let mark = last_offset(lines) as u64 + h as u64;
     between_marks(slots, &mut saved[..n], ranking, mark, h as u64)
 }
 

@@ -8,7 +8,7 @@ use std::alloc::AllocError;
 use std::error::Error;
 use std::fmt;
 
-#[derive(Clone, Copy)]
+#[derive(Clone, Copy, Debug)]
 pub enum Fault {
     // the sheet's writer
     TextTooLong,
@@ -38,7 +38,7 @@ pub enum Fault {
 }
 
 // A fault as it is reported: a missing place is 0.
-#[derive(Clone, Copy)]
+#[derive(Clone, Copy, PartialEq, Eq, Debug)]
 pub struct FaultCode {
     pub number: u32,
     pub layer: u32,
@@ -99,13 +99,6 @@ impl fmt::Display for Fault {
             second,
         } = self.code();
         write!(f, "fault {number} {layer} {first} {second}")
-    }
-}
-
-// The same line, for whoever debugs.
-impl fmt::Debug for Fault {
-    fn fmt<W: fmt::Write>(&self, f: &mut fmt::Formatter<W>) -> fmt::Result {
-        <Fault as fmt::Display>::fmt(self, f)
     }
 }
 

@@ -2,7 +2,7 @@
 
 ghost use Rattle.std.specs.Prelude.{◌≤◌, length, IfOk};
 
-use report::planner::Planner;
+use report::desk::Desk;
 use std::io;
 use std::io::{Read, Write};
 
@@ -33,9 +33,9 @@ fn read_text(rt: &HostRuntime, text: &mut [u8]) -> io::Result<usize>
 fn answer(rt: &HostRuntime) -> anyhow::Result<()> {
     let mut text = [0; TEXT_MOST];
     let len = read_text(rt, &mut text)?;
-    let mut planner = Planner::new(rt.alloc())?;
+    let mut desk = Desk::new(rt.alloc())?;
     let mut out = [0; 1024];
-    let written = planner.print(&text[0..len], &mut out)?;
+    let written = desk.print(&text[0..len], &mut out)?;
     let mut output = rt.stdout();
     output.write_all(&out[0..written])?;
     Ok(())

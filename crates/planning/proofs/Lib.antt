@@ -3,7 +3,7 @@ pub mod ByPlace
 pub mod LeastDeadline
 pub mod Tight
 pub mod Multiples
-pub mod CrowdedPairs
+pub mod ShortPairs
 pub mod Candidates
 pub mod Unplaced
 pub mod Steps

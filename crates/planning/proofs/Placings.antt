@@ -11,8 +11,8 @@ use Rattle.windows.proofs.Rule.{apart_means}
 use Rattle.planning.proofs.ByPlace.{by_place}
 use Rattle.planning.proofs.Clear.{clear_push, clear_pushed}
 use Rattle.planning.proofs.Search.{Fits, Good, Before, found, nothing}
-use Rattle.planning.proofs.CrowdedPairs.{never_apart}
-use Rattle.planning.specs.Offsets.{clear_of, place, crowded_pair, Placing, NotAfter, Least}
+use Rattle.planning.proofs.ShortPairs.{never_apart}
+use Rattle.planning.specs.Offsets.{clear_of, place, short_pair, Placing, NotAfter, Least}
 
 pub periodic : (l : Line) → Ranged l → Periodic l
 periodic l r = (r.1, omega (arith, r.1, r.2, r.3))
@@ -112,7 +112,7 @@ module _ (ls : List Line) (ranged : All Ranged ls) where
   nothing_to_find e q h = nothing [] ls e q (good_from_placing [] ls q ranged h (λ _ _ _. refl))
 
   -- nor is there a placing where a pair is too long for each other
-  pub too_long_to_place : (pair : ℕ × ℕ) → crowded_pair 1 ls ≡ Some pair → (q : List Line) → Placing ls q → ⊥
+  pub too_long_to_place : (pair : ℕ × ℕ) → short_pair 1 ls ≡ Some pair → (q : List Line) → Placing ls q → ⊥
   too_long_to_place pair e q h =
       let n = never_apart ls pair e in
       let i = pair.0 - 1 in

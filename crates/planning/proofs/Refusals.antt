@@ -2,8 +2,6 @@
 use Rattle.std.proofs.Common.{◌≡◌, ℕ, ◌⊎◌, List, [], Some, None, Ok, Err, Option, Result, refl, subst, inl, inr, ⊎_elim, arith}
 use Rattle.std.specs.List.{AllByRecursion as All}
 use Rattle.model.specs.Ranges.{Ranged}
-use Rattle.model.specs.Results.{or_fault}
-use Rattle.model.proofs.Results.{or_fault_ok, or_fault_err}
 use Rattle.model.specs.TaskSets.{TaskSet, task_set}
 use Rattle.model.specs.declared.fault.Fault.{Fault}
 use Rattle.model.specs.declared.fault.Fault.TheVariants.{HyperperiodTooLong, PairTooLong, NoOffsets, DeadlineTooShort}
@@ -12,17 +10,25 @@ use Rattle.model.specs.declared.policy.Policy.{Policy}
 use Rattle.planning.proofs.Placings.{found_is_least, nothing_to_find, too_long_to_place}
 use Rattle.planning.specs.Deadlines.{with_deadlines, tight_at}
 use Rattle.planning.specs.Hyperperiods.{passes_at}
-use Rattle.planning.specs.Offsets.{crowded_pair, place}
-use Rattle.planning.specs.Plans.{refuse, plan_of, Unplaceable, TooShortAt}
+use Rattle.planning.specs.Offsets.{short_pair, place}
+use Rattle.planning.specs.Plans.{refuse, need, plan_of, Unplaceable, TooShortAt}
 
 module _ {X Y : Type 0} where
   refuse_ok : (o : Option X) (f : X → Fault) (r : Result Y Fault) (t : Y) → refuse o f r ≡ Ok t → (o ≡ None) × (r ≡ Ok t)
   refuse_ok None f r t e = (refl, e)
   refuse_ok (Some x) f r t e = let z : ◌≡◌ {A = ℕ} 0 1 = cc in absurd (omega arith)
 
+  need_ok : (o : Option X) (f : Fault) (k : X → Result Y Fault) (t : Y) → need o f k ≡ Ok t → (x : X) × (o ≡ Some x) × (k x ≡ Ok t)
+  need_ok None f k t e = let z : ◌≡◌ {A = ℕ} 0 1 = cc in absurd (omega arith)
+  need_ok (Some x) f k t e = (x, refl, e)
+
   refuse_err : (o : Option X) (f : X → Fault) (r : Result Y Fault) (w : Fault) → refuse o f r ≡ Err w → ((x : X) × (o ≡ Some x) × (w ≡ f x)) ⊎ (r ≡ Err w)
   refuse_err None f r w e = inr e
   refuse_err (Some x) f r w e = inl (x, refl, cc)
+
+  need_err : (o : Option X) (f : Fault) (k : X → Result Y Fault) (w : Fault) → need o f k ≡ Err w → ((o ≡ None) × (w ≡ f)) ⊎ ((x : X) × (o ≡ Some x) × (k x ≡ Err w))
+  need_err None f k w e = inl (refl, cc)
+  need_err (Some x) f k w e = inr (x, refl, e)
 
 -- every step went well, and q are the lines with their offsets
 pub record Passed (policy : Policy) (ls : List Line) (t : TaskSet) : Type 0 where
@@ -47,17 +53,17 @@ module _ (policy : Policy) (ls : List Line) where
   pair_fault pair = PairTooLong pair.0 pair.1
 
   third : Result TaskSet Fault
-  third = or_fault (place [] ls) NoOffsets last
+  third = need (place [] ls) NoOffsets last
 
   second : Result TaskSet Fault
-  second = refuse (crowded_pair 1 ls) pair_fault third
+  second = refuse (short_pair 1 ls) pair_fault third
 
   pub passed : (t : TaskSet) → plan_of (task_set policy ls) ≡ Ok t → Passed policy ls t
   unfolding last pair_fault third second
   passed t e =
       let a = refuse_ok (passes_at 1 1 ls) HyperperiodTooLong second t e in
-      let b = refuse_ok (crowded_pair 1 ls) pair_fault third t a.1 in
-      let c = or_fault_ok (place [] ls) NoOffsets last t b.1 in
+      let b = refuse_ok (short_pair 1 ls) pair_fault third t a.1 in
+      let c = need_ok (place [] ls) NoOffsets last t b.1 in
       let d = refuse_ok (tight_at 1 (with_deadlines policy c.0)) DeadlineTooShort (Ok (task_set policy (with_deadlines policy c.0))) t c.2 in
       let ok = d.1 in
       record { q = c.0; short = a.0; placed = c.1; loose = d.0; is = cc }
@@ -69,7 +75,7 @@ module _ (policy : Policy) (ls : List Line) where
       (λ (a : (n : ℕ) × (passes_at 1 1 ls ≡ Some n) × (w ≡ HyperperiodTooLong n)). long a.0 a.2)
       (λ (b : second ≡ Err w).
       ⊎_elim
-      (λ (a : (pair : ℕ × ℕ) × (crowded_pair 1 ls ≡ Some pair) × (w ≡ pair_fault pair)). crowded a.0 a.2 (too_long_to_place ls ranged a.0 a.1))
+      (λ (a : (pair : ℕ × ℕ) × (short_pair 1 ls ≡ Some pair) × (w ≡ pair_fault pair)). crowded a.0 a.2 (too_long_to_place ls ranged a.0 a.1))
       (λ (c : third ≡ Err w).
       ⊎_elim
       (λ (a : (place [] ls ≡ None) × (w ≡ NoOffsets)). without a.1 (nothing_to_find ls ranged a.0))
@@ -78,8 +84,8 @@ module _ (policy : Policy) (ls : List Line) where
       (λ (a : (n : ℕ) × (tight_at 1 (with_deadlines policy d.0) ≡ Some n) × (w ≡ DeadlineTooShort n)). tight a.0 a.2 (d.0, found_is_least ls ranged d.0 d.1, a.1))
       (λ (ok : Ok (task_set policy (with_deadlines policy d.0)) ≡ Err w). let z : ◌≡◌ {A = ℕ} 0 1 = cc in absurd (omega arith))
       (refuse_err (tight_at 1 (with_deadlines policy d.0)) DeadlineTooShort (Ok (task_set policy (with_deadlines policy d.0))) w d.2))
-      (or_fault_err (place [] ls) NoOffsets last w c))
-      (refuse_err (crowded_pair 1 ls) pair_fault third w b))
+      (need_err (place [] ls) NoOffsets last w c))
+      (refuse_err (short_pair 1 ls) pair_fault third w b))
       (refuse_err (passes_at 1 1 ls) HyperperiodTooLong second w e)
 
 -- what a refusal says of the offsets

@@ -1,6 +1,6 @@
 -- Offsets for the regular lines of a sheet.
 --   or_else      the first of two that there is
---   crowded_pair, crowded_with   the first pair of regular lines that no offsets keep apart
+--   short_pair, short_with   the first pair of regular lines that no offsets keep apart
 --   FirstNeverApart   a pair is the first that no offsets keep apart
 --   unplaced    what is known of a line before it has its offset
 --   clear_of     a line is apart from every regular line of a list
@@ -19,14 +19,14 @@ or_else (Some x) o = Some x
 or_else None o = o
 
 -- Line i, which is a, against the lines behind it, of which the next is line j.
-abbrev pub crowded_with : Line → ℕ → ℕ → List Line → Option (ℕ × ℕ)
-crowded_with a i j [] = None
-crowded_with a i j (b ∷ bs) = cond (is_regular b && not (roomy_lines a b)) (Some (i, j)) (crowded_with a i (j + 1) bs)
+abbrev pub short_with : Line → ℕ → ℕ → List Line → Option (ℕ × ℕ)
+short_with a i j [] = None
+short_with a i j (b ∷ bs) = cond (is_regular b && not (roomy_lines a b)) (Some (i, j)) (short_with a i (j + 1) bs)
 
 -- Pairs go by their lower line, then by their higher; lines are counted from i.
-abbrev pub crowded_pair : ℕ → List Line → Option (ℕ × ℕ)
-crowded_pair i [] = None
-crowded_pair i (a ∷ bs) = or_else (cond (is_regular a) (crowded_with a i (i + 1) bs) None) (crowded_pair (i + 1) bs)
+abbrev pub short_pair : ℕ → List Line → Option (ℕ × ℕ)
+short_pair i [] = None
+short_pair i (a ∷ bs) = or_else (cond (is_regular a) (short_with a i (i + 1) bs) None) (short_pair (i + 1) bs)
 
 -- Two regular lines, counted from 1, the lower first, that no offsets keep apart; every two regular
 -- lines before them, by the lower line and then by the higher, are short enough for each other.

@@ -1,5 +1,5 @@
 -- What planning makes of a sheet, and what every plan keeps.
---   refuse        a refusal where something was found
+--   refuse, need   a refusal where something was found, or where nothing was
 --   plan_of        the plan, or the first refusal in the order: hyperperiod, pair, offsets, deadline
 --   Unplaceable   no offsets keep every two regular lines apart
 --   TooShortAt    the first line whose deadline in the plan would be too short
@@ -8,7 +8,6 @@
 --   IsPlan        what every plan keeps of its lines
 use Rattle.std.specs.Prelude.{◌≡◌, ℕ, ◌<◌, ◌≤◌, true, List, [], length, Some, None, Ok, Err, Option, Result, MatchResult, slice_index_or}
 use Rattle.model.specs.Ranges.{Ranged, is_regular, blank, regulars}
-use Rattle.model.specs.Results.{or_fault}
 use Rattle.model.specs.TaskSets.{TaskSet, task_set}
 use Rattle.model.specs.declared.fault.Fault.{Fault}
 use Rattle.model.specs.declared.fault.Fault.TheVariants.{HyperperiodTooLong, PairTooLong, NoOffsets, DeadlineTooShort}
@@ -16,7 +15,7 @@ use Rattle.model.specs.declared.line.Line.{Line}
 use Rattle.model.specs.declared.policy.Policy.{Policy}
 use Rattle.windows.specs.Windows.{AllApart}
 use Rattle.planning.specs.Hyperperiods.{hyperperiod, limit, passes_at}
-use Rattle.planning.specs.Offsets.{crowded_pair, place, Placing, Least}
+use Rattle.planning.specs.Offsets.{short_pair, place, Placing, Least}
 use Rattle.planning.specs.Deadlines.{with_deadlines, tight_at}
 
 -- A refusal where something was found, else what follows.
@@ -24,12 +23,17 @@ abbrev pub refuse : {X Y : Type 0} → Option X → (X → Fault) → Result Y F
 refuse (Some x) fault next = Err (fault x)
 refuse None fault next = next
 
+-- What follows where something was found, else a refusal.
+abbrev pub need : {X Y : Type 0} → Option X → Fault → (X → Result Y Fault) → Result Y Fault
+need None fault next = Err fault
+need (Some x) fault next = next x
+
 -- The hyperperiod is looked at first, then the pairs, the offsets and the deadlines.
 abbrev pub plan_of : TaskSet → Result TaskSet Fault
 plan_of s =
     refuse (passes_at 1 1 s.lines) HyperperiodTooLong
-    (refuse (crowded_pair 1 s.lines) (λ pair. PairTooLong pair.0 pair.1)
-    (or_fault (place [] s.lines) NoOffsets (λ placed.
+    (refuse (short_pair 1 s.lines) (λ pair. PairTooLong pair.0 pair.1)
+    (need (place [] s.lines) NoOffsets (λ placed.
     refuse (tight_at 1 (with_deadlines s.policy placed)) DeadlineTooShort
     (Ok (task_set s.policy (with_deadlines s.policy placed))))))
 

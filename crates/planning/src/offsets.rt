@@ -3,7 +3,7 @@
 ghost use Rattle.std.specs.Prelude.{◌≡◌, ℕ, ◌+◌, ◌<◌, ◌≤◌, not, ◌&&◌, ◌||◌, map, length, take, drop, if◌then◌else◌, Some, None};
 ghost use Rattle.model.specs.Ranges.{is_regular};
 ghost use Rattle.windows.specs.Windows.{apart_lines, roomy_lines, at as moved_to};
-ghost use Rattle.planning.specs.Offsets.{crowded_pair, FirstNeverApart, clear_of, place as place_of, unplaced};
+ghost use Rattle.planning.specs.Offsets.{short_pair, FirstNeverApart, clear_of, place as place_of, unplaced};
 
 use crate::regular::is_regular;
 use model::line::Line;
@@ -25,9 +25,9 @@ fn numbers(i: usize, j: usize) -> (u32, u32)
 }
 
 // The first pair of regular lines that no offsets keep apart.
-pub(crate) fn crowded_pair(lines: &[Line]) -> Option<(u32, u32)>
+pub(crate) fn short_pair(lines: &[Line]) -> Option<(u32, u32)>
     requires { length lines.now ≤ 24 }
-    ensures first { result ≡ crowded_pair 1 lines.now }
+    ensures first { result ≡ short_pair 1 lines.now }
     ensures never { (pair : ℕ × ℕ) → result ≡ Some pair → FirstNeverApart lines.now pair }
 {
     'pairs: {

@@ -1,4 +1,4 @@
+pub mod Desks
 pub mod Pages
-pub mod Planners
 pub mod Printed
 pub mod Reports

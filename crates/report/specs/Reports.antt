@@ -1,4 +1,4 @@
--- What one call that prints replies, what its buffer holds then, and what its planner holds.
+-- What one call that prints replies, what its buffer holds then, and what its desk holds.
 --   ahead_of     the ranking that a policy names
 --   rehearsed   the rehearsal of a plan, under the ranking of its policy
 --   planned_from the plan of a text, or the fault of reading or planning

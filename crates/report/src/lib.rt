@@ -1,6 +1,6 @@
 //! What the planning program prints, written into a buffer of the caller's.
 
+pub mod desk;
 pub(crate) mod lines;
 pub(crate) mod outcome;
 pub(crate) mod page;
-pub mod planner;

@@ -16,8 +16,8 @@ use Rattle.runs.specs.declared.call.Reply.TheVariants.{Unit as UnitGiven}
 use Rattle.runs.specs.declared.task.Task.{Task}
 use Rattle.runs.specs.Tasks.{pending, due, arrived, served, ended_early, rested, resumed, blank_task}
 use Rattle.runs.specs.Steps.{better, first_from, first_of, number_of, arrived_all, stepped, report_for, report_of, Numbered, Timed, WellFormed, First, ToFirst}
-use Rattle.runs.specs.Calls.{State, state_of, Outcome, begun, last_of, on_line, end_of, aside_of, rest_of, resume_of, next_of, clock_from}
-use Rattle.runs.specs.Histories.{Event, event, History, unit_of, clock_of, line_at, rests_after, Ran}
+use Rattle.runs.specs.Calls.{State, state_of, Outcome, begun, last_of, on_line, end_of, aside_of, rest_of, resume_of, next_of}
+use Rattle.runs.specs.Histories.{Event, event, History, unit_of, clock_of, line_at, rests_after, Ran, start_of}
 use Rattle.runs.specs.Promise.{SoundPlan}
 use Rattle.runs.proofs.Firsts.{first_goes_first}
 use Rattle.runs.proofs.Inductions.{every_run}
@@ -275,21 +275,21 @@ module _ (ls : List Line) (start : ℕ) (h : History) (s : State) (b : Basic ls 
 
 -- Every run: at its start, and after one call more.
 module _ (ahead : Job → Job → Bool) (lawful : Lawful ahead) (ls : List Line) (m start : ℕ) (sound : SoundPlan ls m) where
-  at_start : Basic ls (clock_from start) [] (begun start ls)
+  at_start : Basic ls (start_of start) [] (begun start ls)
   at_start = record {
     clock = omega arith;
     bounded = omega arith;
     size = length_new_tasks 1 ls;
-    each = λ i p. subst (Kept (clock_from start) (clock_from start) (i + 1) (get_or ls i blank) false) (sym (new_tasks_at 1 ls i blank_task blank p))
+    each = λ i p. subst (Kept (start_of start) (start_of start) (i + 1) (get_or ls i blank) false) (sym (new_tasks_at 1 ls i blank_task blank p))
         (record { number = omega arith; line = refl; resting = refl; quiet = λ _. refl; up = λ _. refl; soon = omega arith; released = λ q. absurd (omega arith) });
     last = tt;
   }
 
-  one_more : (h : History) (s : State) (c : Call) → Ran ahead ls start h s → Basic ls (clock_from start) h s → Basic ls (clock_from start) (push h (event c (next_of ahead s c).1)) (next_of ahead s c).0
-  one_more h s Step r b = step_outcome (λ o. Basic ls (clock_from start) (push h (event Step o.1)) o.0) ahead s (refused_basic ls (clock_from start) h s b Step) (step_given ls (clock_from start) h s b ahead lawful m sound)
-  one_more h s EarlyEnd r b = end_basic ls (clock_from start) h s b
-  one_more h s (Rest number) r b = rest_basic ls (clock_from start) h s b number
-  one_more h s (Resume number) r b = resume_basic ls (clock_from start) h s b number
+  one_more : (h : History) (s : State) (c : Call) → Ran ahead ls start h s → Basic ls (start_of start) h s → Basic ls (start_of start) (push h (event c (next_of ahead s c).1)) (next_of ahead s c).0
+  one_more h s Step r b = step_outcome (λ o. Basic ls (start_of start) (push h (event Step o.1)) o.0) ahead s (refused_basic ls (start_of start) h s b Step) (step_given ls (start_of start) h s b ahead lawful m sound)
+  one_more h s EarlyEnd r b = end_basic ls (start_of start) h s b
+  one_more h s (Rest number) r b = rest_basic ls (start_of start) h s b number
+  one_more h s (Resume number) r b = resume_basic ls (start_of start) h s b number
 
-  pub basics : (h : History) (s : State) → Ran ahead ls start h s → Basic ls (clock_from start) h s
-  basics h s r = every_run ahead ls start (Basic ls (clock_from start)) at_start one_more h s r
+  pub basics : (h : History) (s : State) → Ran ahead ls start h s → Basic ls (start_of start) h s
+  basics h s r = every_run ahead ls start (Basic ls (start_of start)) at_start one_more h s r

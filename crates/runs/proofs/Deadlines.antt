@@ -14,8 +14,8 @@ use Rattle.runs.specs.declared.call.Reply.TheVariants.{Unit as UnitGiven}
 use Rattle.runs.specs.declared.call.StepReport.{StepReport}
 use Rattle.runs.specs.declared.task.Task.{Task}
 use Rattle.runs.specs.Tasks.{due, releases_at, arrived, served, ended_early, rested, resumed}
-use Rattle.runs.specs.Calls.{State, begun, clock_from}
-use Rattle.runs.specs.Histories.{Event, event, History, unit_of, clock_of, line_at, units_in, EndAt, RestAt, rests_after, release, Ran}
+use Rattle.runs.specs.Calls.{State, begun}
+use Rattle.runs.specs.Histories.{Event, event, History, unit_of, clock_of, line_at, units_in, EndAt, RestAt, rests_after, release, Ran, start_of}
 use Rattle.runs.specs.Promise.{SoundPlan, Over, InTime}
 use Rattle.runs.proofs.Arrivals.{next_release_lem, release_at_lem, no_release, struck_not, arrived_new, arrived_old, arrived_either}
 use Rattle.runs.proofs.Basics.{Basic, basics, LastKept}
@@ -105,44 +105,44 @@ module _ (start : ℕ) (n : ℕ) (l : Line) (from : ℕ) where
 module _ (ahead : Job → Job → Bool) (lawful : Lawful ahead) (ls : List Line) (m start : ℕ) (sound : SoundPlan ls m)
     (early : (h : History) (s : State) → Ran ahead ls start h s → (i : ℕ) → i < length ls → 0 < (task_of s.tasks i).left → s.clock < (task_of s.tasks i).release + (get_or ls i blank).deadline)
     (none_due : (h : History) (s : State) → Ran ahead ls start h s → count_by (due s.clock) s.tasks ≡ 0) where
-  basic : (h : History) (s : State) → Ran ahead ls start h s → Basic ls (clock_from start) h s
+  basic : (h : History) (s : State) → Ran ahead ls start h s → Basic ls (start_of start) h s
   basic = basics ahead lawful ls m start sound
 
   -- release k of line i + 1, in whose unit the line was not at rest
   module _ (i : ℕ) (in' : i < length ls) (k : ℕ) where
     abbrev F : History → Task → Type 0
-    F h x = Fate (clock_from start) (i + 1) (get_or ls i blank) (release (get_or ls i blank) k) h x
+    F h x = Fate (start_of start) (i + 1) (get_or ls i blank) (release (get_or ls i blank) k) h x
 
     abbrev Q : History → ℕ → Task → Type 0
-    Q h t x = (a b : History) (r : StepReport) → h ≡ a ++ event Step (UnitGiven r) ∷ b → clock_of (clock_from start) a ≡ release (get_or ls i blank) k → rests_after a (i + 1) ≡ false → F h x
+    Q h t x = (a b : History) (r : StepReport) → h ≡ a ++ event Step (UnitGiven r) ∷ b → clock_of (start_of start) a ≡ release (get_or ls i blank) k → rests_after a (i + 1) ≡ false → F h x
 
     -- the clock has come past the release
-    past : (h a b : History) (r : StepReport) → h ≡ a ++ event Step (UnitGiven r) ∷ b → clock_of (clock_from start) a ≡ release (get_or ls i blank) k → (clock_from start ≤ release (get_or ls i blank) k) × (release (get_or ls i blank) k < clock_of (clock_from start) h)
-    past h a b r is now = (omega arith, omega (arith, ap (clock_of (clock_from start)) is, clock_append (clock_from start) a (event Step (UnitGiven r) ∷ b)))
+    past : (h a b : History) (r : StepReport) → h ≡ a ++ event Step (UnitGiven r) ∷ b → clock_of (start_of start) a ≡ release (get_or ls i blank) k → (start_of start ≤ release (get_or ls i blank) k) × (release (get_or ls i blank) k < clock_of (start_of start) h)
+    past h a b r is now = (omega arith, omega (arith, ap (clock_of (start_of start)) is, clock_append (start_of start) a (event Step (UnitGiven r) ∷ b)))
 
     -- the line at a reached state, and after the arrivals there
-    had_now : (h : History) (s : State) → Ran ahead ls start h s → Had (clock_from start) h (i + 1) (get_or ls i blank) (clock_of (clock_from start) h) (task_of s.tasks i)
-    had_now h s ran = subst (λ t. Had (clock_from start) h (i + 1) (get_or ls i blank) t (task_of s.tasks i)) (basic h s ran).clock (had ahead lawful ls m start sound i in' h s ran)
+    had_now : (h : History) (s : State) → Ran ahead ls start h s → Had (start_of start) h (i + 1) (get_or ls i blank) (clock_of (start_of start) h) (task_of s.tasks i)
+    had_now h s ran = subst (λ t. Had (start_of start) h (i + 1) (get_or ls i blank) t (task_of s.tasks i)) (basic h s ran).clock (had ahead lawful ls m start sound i in' h s ran)
 
-    had_arrived : (h : History) (s : State) → Ran ahead ls start h s → Had (clock_from start) h (i + 1) (get_or ls i blank) (clock_of (clock_from start) h) (arrived s.clock (task_of s.tasks i))
+    had_arrived : (h : History) (s : State) → Ran ahead ls start h s → Had (start_of start) h (i + 1) (get_or ls i blank) (clock_of (start_of start) h) (arrived s.clock (task_of s.tasks i))
     had_arrived h s ran =
         let b = basic h s ran in
-        subst (λ t. Had (clock_from start) h (i + 1) (get_or ls i blank) t (arrived s.clock (task_of s.tasks i))) b.clock
-        (arrived_had (clock_from start) h (i + 1) (get_or ls i blank) s.clock (task_of s.tasks i) (b.each i in').line (had ahead lawful ls m start sound i in' h s ran))
+        subst (λ t. Had (start_of start) h (i + 1) (get_or ls i blank) t (arrived s.clock (task_of s.tasks i))) b.clock
+        (arrived_had (start_of start) h (i + 1) (get_or ls i blank) s.clock (task_of s.tasks i) (b.each i in').line (had ahead lawful ls m start sound i in' h s ran))
 
     -- the step of the release itself
-    fate_new : (h : History) (s s' : State) (r : StepReport) → Ran ahead ls start h s → Stepped i s s' r → clock_of (clock_from start) h ≡ release (get_or ls i blank) k → rests_after h (i + 1) ≡ false
+    fate_new : (h : History) (s s' : State) (r : StepReport) → Ran ahead ls start h s → Stepped i s s' r → clock_of (start_of start) h ≡ release (get_or ls i blank) k → rests_after h (i + 1) ≡ false
         → F (push h (event Step (UnitGiven r))) (served r.line (arrived s.clock (task_of s.tasks i)))
     fate_new h s s' r ran st now awake =
         let b = basic h s ran in
         let x = b.each i in' in
         let ranged = sound.ranged i in' in
         let new = arrived_new s.clock (task_of s.tasks i) (x.resting ∙ awake) (subst (λ l. releases_at l s.clock ≡ true) (sym x.line) (release_at_lem (get_or ls i blank) k s.clock (b.clock ∙ now))) in
-        fate_served (clock_from start) (i + 1) (get_or ls i blank) (release (get_or ls i blank) k) (omega arith) h r (arrived s.clock (task_of s.tasks i)) (after_arrivals ahead lawful ls m start sound i in' h s ran st.below).number
+        fate_served (start_of start) (i + 1) (get_or ls i blank) (release (get_or ls i blank) k) (omega arith) h r (arrived s.clock (task_of s.tasks i)) (after_arrivals ahead lawful ls m start sound i in' h s ran st.below).number
         (omega arith) (omega (arith, ranged.1, ranged.2)) (omega (arith, new.0, ap (λ l. l.length) x.line, ranged.1)) (new.1 ∙ b.clock ∙ now) (had_arrived h s ran)
 
     -- a later step
-    fate_step : (h : History) (s s' : State) (r : StepReport) → Ran ahead ls start h s → Stepped i s s' r → clock_from start ≤ release (get_or ls i blank) k → release (get_or ls i blank) k < clock_of (clock_from start) h
+    fate_step : (h : History) (s s' : State) (r : StepReport) → Ran ahead ls start h s → Stepped i s s' r → start_of start ≤ release (get_or ls i blank) k → release (get_or ls i blank) k < clock_of (start_of start) h
         → F h (task_of s.tasks i) → F (push h (event Step (UnitGiven r))) (served r.line (arrived s.clock (task_of s.tasks i)))
     fate_step h s s' r ran st low after (running some at) =
         let b = basic h s ran in
@@ -153,12 +153,12 @@ module _ (ahead : Job → Job → Bool) (lawful : Lawful ahead) (ls : List Line)
         arrived_old s.clock (task_of s.tasks i) (subst (λ l. releases_at l s.clock ≡ false) (sym x.line) (no_release (get_or ls i blank) k s.clock (omega (arith, b.clock)) (omega (arith, soon, at, ranged.3))))
         ∙ struck_not s.clock (task_of s.tasks i) (λ e. omega (arith, soon, e, ap (λ l. l.deadline) x.line)) in
         subst (λ y. F (push h (event Step (UnitGiven r))) (served r.line y)) (sym same)
-        (fate_served (clock_from start) (i + 1) (get_or ls i blank) (release (get_or ls i blank) k) low h r (task_of s.tasks i) x.number (omega arith) (omega (arith, b.clock, soon, at)) some at (had_now h s ran))
+        (fate_served (start_of start) (i + 1) (get_or ls i blank) (release (get_or ls i blank) k) low h r (task_of s.tasks i) x.number (omega arith) (omega (arith, b.clock, soon, at)) some at (had_now h s ran))
     fate_step h s s' r ran st low after (finished units next) =
         let b = basic h s ran in
         let ranged = sound.ranged i in' in
         let y = after_arrivals ahead lawful ls m start sound i in' h s ran st.below in
-        fate_after (clock_from start) (i + 1) (get_or ls i blank) (release (get_or ls i blank) k) low h r (arrived s.clock (task_of s.tasks i)) y.number after units
+        fate_after (start_of start) (i + 1) (get_or ls i blank) (release (get_or ls i blank) k) low h r (arrived s.clock (task_of s.tasks i)) y.number after units
         (arrived_either s.clock (task_of s.tasks i) (λ z. 0 < z.left → release (get_or ls i blank) k + (get_or ls i blank).deadline ≤ z.release)
         (λ z releases now p. let new = releases_at_lem (get_or ls i blank) s.clock (subst (λ l. releases_at l s.clock ≡ true) (b.each i in').line releases) in
         omega (arith, now, new.1, b.clock, ranged.3, next_release_lem (get_or ls i blank) k new.0 (omega (arith, new.1, b.clock))))
@@ -166,21 +166,21 @@ module _ (ahead : Job → Job → Bool) (lawful : Lawful ahead) (ls : List Line)
         next)
         (λ p. omega (arith, (y.released p).before, b.clock))
         (λ line. (st.told line).some)
-    fate_step h s s' r ran st low after (stopped c) = stopped (stopped_older (clock_from start) (i + 1) (get_or ls i blank) (release (get_or ls i blank) k) h (event Step (UnitGiven r)) low c)
-    fate_step h s s' r ran st low after (aside c) = aside (aside_older (clock_from start) (i + 1) (get_or ls i blank) (release (get_or ls i blank) k) h (event Step (UnitGiven r)) c)
+    fate_step h s s' r ran st low after (stopped c) = stopped (stopped_older (start_of start) (i + 1) (get_or ls i blank) (release (get_or ls i blank) k) h (event Step (UnitGiven r)) low c)
+    fate_step h s s' r ran st low after (aside c) = aside (aside_older (start_of start) (i + 1) (get_or ls i blank) (release (get_or ls i blank) k) h (event Step (UnitGiven r)) c)
 
     on_step : (h : History) (s s' : State) (r : StepReport) → Ran ahead ls start h s → Stepped i s s' r → Q h s.clock (task_of s.tasks i)
         → Q (push h (event Step (UnitGiven r))) (s.clock + 1) (served r.line (arrived s.clock (task_of s.tasks i)))
     on_step h s s' r ran st q a b r' is now awake =
         ⊎_elim
-        (λ (last : (h ≡ a) × (event Step (UnitGiven r) ≡ event Step (UnitGiven r'))). fate_new h s s' r ran st (ap (clock_of (clock_from start)) last.0 ∙ now) (ap (λ g. rests_after g (i + 1)) last.0 ∙ awake))
+        (λ (last : (h ≡ a) × (event Step (UnitGiven r) ≡ event Step (UnitGiven r'))). fate_new h s s' r ran st (ap (clock_of (start_of start)) last.0 ∙ now) (ap (λ g. rests_after g (i + 1)) last.0 ∙ awake))
         (λ (older : (c : History) × (h ≡ a ++ event Step (UnitGiven r') ∷ c)).
         let p = past h a older.0 r' older.1 now in
         fate_step h s s' r ran st p.0 p.1 (q a older.0 r' older.1 now awake))
         (split_push h a b (event Step (UnitGiven r)) (event Step (UnitGiven r')) is)
 
     -- a call that gives no unit
-    on_call : (h : History) (e : Event) (t : ℕ) (x y : Task) → unit_of e.reply ≡ [] → (clock_from start ≤ release (get_or ls i blank) k → F h x → F (push h e) y) → Q h t x → Q (push h e) t y
+    on_call : (h : History) (e : Event) (t : ℕ) (x y : Task) → unit_of e.reply ≡ [] → (start_of start ≤ release (get_or ls i blank) k → F h x → F (push h e) y) → Q h t x → Q (push h e) t y
     on_call h e t x y none goes q a b r is now awake =
         ⊎_elim
         (λ (last : (h ≡ a) × (e ≡ event Step (UnitGiven r))). absurd (omega (arith, ap length (sym none ∙ ap (λ z. unit_of z.reply) last.1))))
@@ -189,43 +189,43 @@ module _ (ahead : Job → Job → Bool) (lawful : Lawful ahead) (ls : List Line)
 
     -- a pending job that is over at the clock is over in time
     timely : (h : History) (s : State) → Ran ahead ls start h s → 0 < (task_of s.tasks i).left → (task_of s.tasks i).release ≡ release (get_or ls i blank) k
-        → (release (get_or ls i blank) k < clock_of (clock_from start) h) × (clock_of (clock_from start) h < release (get_or ls i blank) k + (get_or ls i blank).deadline)
+        → (release (get_or ls i blank) k < clock_of (start_of start) h) × (clock_of (start_of start) h < release (get_or ls i blank) k + (get_or ls i blank).deadline)
     timely h s ran some at =
         let b = basic h s ran in
         (omega (arith, at, b.clock, ((b.each i in').released some).before), omega (arith, at, b.clock, early h s ran i in' some))
 
     on_end : (h : History) (s : State) → Ran ahead ls start h s → s.last ≡ Running (i + 1) → Q h s.clock (task_of s.tasks i) → Q (push h (event EarlyEnd Done)) s.clock (ended_early (task_of s.tasks i))
     on_end h s ran last = on_call h (event EarlyEnd Done) s.clock (task_of s.tasks i) (ended_early (task_of s.tasks i)) refl (λ low.
-        fate_none (clock_from start) (i + 1) (get_or ls i blank) (release (get_or ls i blank) k) low h (event EarlyEnd Done) refl (task_of s.tasks i) (ended_early (task_of s.tasks i)) refl
+        fate_none (start_of start) (i + 1) (get_or ls i blank) (release (get_or ls i blank) k) low h (event EarlyEnd Done) refl (task_of s.tasks i) (ended_early (task_of s.tasks i)) refl
         (λ some at.
         let b = basic h s ran in
         let t = timely h s ran some at in
-        let ran-last = subst (LastKept (clock_from start) h s.clock s.tasks) last b.last in
-        stopped (clock_of (clock_from start) h, t.0, t.1, line_same (clock_from start) h (event EarlyEnd Done) refl (clock_of (clock_from start) h - 1) ∙ ap (λ c. line_at (clock_from start) h (c - 1)) (sym b.clock) ∙ ran-last.had, end_now (clock_from start) h)))
+        let ran-last = subst (LastKept (start_of start) h s.clock s.tasks) last b.last in
+        stopped (clock_of (start_of start) h, t.0, t.1, line_same (start_of start) h (event EarlyEnd Done) refl (clock_of (start_of start) h - 1) ∙ ap (λ c. line_at (start_of start) h (c - 1)) (sym b.clock) ∙ ran-last.had, end_now (start_of start) h)))
 
     on_rest : (h : History) (s : State) → Ran ahead ls start h s → Q h s.clock (task_of s.tasks i) → Q (push h (event (Rest (i + 1)) Done)) s.clock (rested (task_of s.tasks i))
     on_rest h s ran = on_call h (event (Rest (i + 1)) Done) s.clock (task_of s.tasks i) (rested (task_of s.tasks i)) refl (λ low.
-        fate_none (clock_from start) (i + 1) (get_or ls i blank) (release (get_or ls i blank) k) low h (event (Rest (i + 1)) Done) refl (task_of s.tasks i) (rested (task_of s.tasks i)) (rested_left (task_of s.tasks i))
-        (λ some at. let t = timely h s ran some at in aside (clock_of (clock_from start) h, t.0, t.1, rest_now (clock_from start) h (i + 1))))
+        fate_none (start_of start) (i + 1) (get_or ls i blank) (release (get_or ls i blank) k) low h (event (Rest (i + 1)) Done) refl (task_of s.tasks i) (rested (task_of s.tasks i)) (rested_left (task_of s.tasks i))
+        (λ some at. let t = timely h s ran some at in aside (clock_of (start_of start) h, t.0, t.1, rest_now (start_of start) h (i + 1))))
 
     fates : (h : History) (s : State) → Ran ahead ls start h s → Q h s.clock (task_of s.tasks i)
     fates = every_line ahead lawful ls m start sound i in' Q (record {
       first = λ a b r is. absurd (omega (arith, ap length is, length-append a (event Step (UnitGiven r) ∷ b)));
       step = on_step;
-      none = λ h s e ran none. on_call h e s.clock (task_of s.tasks i) (task_of s.tasks i) none (λ low. fate_same (clock_from start) (i + 1) (get_or ls i blank) (release (get_or ls i blank) k) low h e none (task_of s.tasks i) (task_of s.tasks i) refl refl);
+      none = λ h s e ran none. on_call h e s.clock (task_of s.tasks i) (task_of s.tasks i) none (λ low. fate_same (start_of start) (i + 1) (get_or ls i blank) (release (get_or ls i blank) k) low h e none (task_of s.tasks i) (task_of s.tasks i) refl refl);
       early = on_end;
       aside = on_rest;
-      again = λ h s ran. on_call h (event (Resume (i + 1)) Done) s.clock (task_of s.tasks i) (resumed (task_of s.tasks i)) refl (λ low. fate_same (clock_from start) (i + 1) (get_or ls i blank) (release (get_or ls i blank) k) low h (event (Resume (i + 1)) Done) refl (task_of s.tasks i) (resumed (task_of s.tasks i)) refl refl);
+      again = λ h s ran. on_call h (event (Resume (i + 1)) Done) s.clock (task_of s.tasks i) (resumed (task_of s.tasks i)) refl (λ low. fate_same (start_of start) (i + 1) (get_or ls i blank) (release (get_or ls i blank) k) low h (event (Resume (i + 1)) Done) refl (task_of s.tasks i) (resumed (task_of s.tasks i)) refl refl);
     })
 
     -- at the deadline no job runs still
-    over : (h : History) (s : State) → Ran ahead ls start h s → release (get_or ls i blank) k + (get_or ls i blank).deadline ≤ clock_of (clock_from start) h → F h (task_of s.tasks i) → Over ls (clock_from start) h i (release (get_or ls i blank) k)
+    over : (h : History) (s : State) → Ran ahead ls start h s → release (get_or ls i blank) k + (get_or ls i blank).deadline ≤ clock_of (start_of start) h → F h (task_of s.tasks i) → Over ls (start_of start) h i (release (get_or ls i blank) k)
     over h s ran late (running some at) = absurd (omega (arith, (timely h s ran some at).1))
     over h s ran late (finished units next) = inl units
     over h s ran late (stopped c) = inr (inl c)
     over h s ran late (aside c) = inr (inr c)
 
-  pub in_time : (h : History) (s : State) → Ran ahead ls start h s → InTime ls (clock_from start) h
+  pub in_time : (h : History) (s : State) → Ran ahead ls start h s → InTime ls (start_of start) h
   in_time h s ran = record {
     none_struck = λ t r at.
         let split = ran_split ahead lawful at.0 at.1 (event Step (UnitGiven r)) (begun start ls) s (subst (λ z. Ran ahead ls start z s) at.2 ran) in

@@ -12,17 +12,17 @@ use Rattle.runs.specs.declared.call.Call.TheVariants.{Step, EarlyEnd, Rest, Resu
 use Rattle.runs.specs.declared.task.Task.{Task}
 use Rattle.runs.specs.Tasks.{due, releases_at, arrives, ended_early, rested, resumed, new_tasks, blank_task}
 use Rattle.runs.specs.Steps.{first_of, arrived_all, stepped, report_of}
-use Rattle.runs.specs.Calls.{State, Outcome, next_of, on_line, clock_from}
-use Rattle.runs.specs.Histories.{History, Ran}
+use Rattle.runs.specs.Calls.{State, Outcome, next_of, on_line}
+use Rattle.runs.specs.Histories.{History, Ran, start_of}
 use Rattle.runs.specs.Promise.{SoundPlan}
-use Rattle.runs.specs.Rehearsals.{largest_offset, rehearsal_of}
+use Rattle.runs.specs.Rehearsals.{last_offset, rehearsal_of}
 use Rattle.runs.proofs.Reported.{report_struck}
 use Rattle.runs.proofs.Basics.{Basic, formed, basics}
 use Rattle.runs.proofs.Dominance.{Under, Dom, due_under, Lowered, on_line_dom, ended_lowers, rested_lowers, resumed_lowers, step_dom}
 use Rattle.runs.proofs.Folding.{offset_below, length_state, state_at, state_well_formed, state_arrives, state_clear, fold_dom}
 use Rattle.runs.proofs.Inductions.{every_run}
 use Rattle.runs.proofs.Latest.{release_again}
-use Rattle.runs.specs.RehearsalRules.{tasks_at}
+use Rattle.runs.specs.RehearsalRules.{state_at}
 use Rattle.runs.proofs.NewTasks.{length_new_tasks, new_tasks_at}
 use Rattle.runs.proofs.Outcomes.{step_outcome, end_outcome, rest_outcome, resume_outcome}
 use Rattle.runs.proofs.Pointwise.{task_of}
@@ -32,18 +32,18 @@ pub record Folded (ls : List Line) (m t : ℕ) : Type 0 where
   pub τ : ℕ
   pub σ : ℕ
   pub sum : t ≡ τ + σ
-  pub inside : τ < largest_offset ls + m + m
+  pub inside : τ < last_offset ls + m + m
   pub turns : (c : ℕ) × (σ ≡ c * m)
-  pub back : (σ ≡ 0) ⊎ (largest_offset ls + m ≤ τ)
+  pub back : (σ ≡ 0) ⊎ (last_offset ls + m ≤ τ)
 
 -- The lines xs at clock t are under those of the rehearsal.
 pub record Shadowed (ahead : Job → Job → Bool) (ls : List Line) (m t : ℕ) (xs : List Task) : Type 0 where
   pub fold : Folded ls m t
-  pub dom : Dom fold.σ xs (tasks_at ahead ls fold.τ)
+  pub dom : Dom fold.σ xs (state_at ahead ls fold.τ)
 
 folded : (ls : List Line) (m t : ℕ) → 0 < m → Folded ls m t
 folded ls m t p =
-    let mark = largest_offset ls + m in
+    let mark = last_offset ls + m in
     ⊎_elim
     (λ (low : t < mark + m). record { τ = t; σ = 0; sum = omega arith; inside = low; turns = (0, omega arith); back = inl refl })
     (λ (high : mark + m ≤ t).
@@ -76,7 +76,7 @@ module _ (ahead : Job → Job → Bool) (lawful : Lawful ahead) (ls : List Line)
           under = λ i h.
               let hi : i < length ls = omega (arith, length_new_tasks 1 ls) in
               let s = state_at ahead ls f.τ i hi in
-              subst (λ x. Under f.σ x (task_of (tasks_at ahead ls f.τ) i)) (sym (new_tasks_at 1 ls i blank_task blank hi))
+              subst (λ x. Under f.σ x (task_of (state_at ahead ls f.τ) i)) (sym (new_tasks_at 1 ls i blank_task blank hi))
               (record { same_number = sym s.0; same_line = sym s.1; less = λ some. absurd (omega arith); released = λ some. absurd (omega arith) });
         };
       }
@@ -88,35 +88,35 @@ module _ (ahead : Job → Job → Bool) (lawful : Lawful ahead) (ls : List Line)
       ap (releases_at l) f.sum ∙
       ⊎_elim
       (λ (none : f.σ ≡ 0). ap (releases_at l) (omega arith))
-      (λ (past : largest_offset ls + m ≤ f.τ).
+      (λ (past : last_offset ls + m ≤ f.τ).
       let n = plan.whole i h in
       let c = f.turns in
       release_again l f.τ f.σ (c.0 * n.0) (omega (arith, offset_below ls i h)) (c.1 ∙ ap (λ x. c.0 * x) n.1 ∙ sym (mul_assoc c.0 n.0 l.period)))
       f.back
 
   -- one unit more, and back to the first mark from the second
-  unit_more : (t : ℕ) (xs ys : List Task) (f : Folded ls m t) → ys ≡ tasks_at ahead ls (suc f.τ) → Dom f.σ xs ys → Shadowed ahead ls m (t + 1) xs
+  unit_more : (t : ℕ) (xs ys : List Task) (f : Folded ls m t) → ys ≡ state_at ahead ls (suc f.τ) → Dom f.σ xs ys → Shadowed ahead ls m (t + 1) xs
   unit_more t xs ys f e dom =
       ⊎_elim
-      (λ (low : suc f.τ < largest_offset ls + m + m). record {
-        fold = record { τ = suc f.τ; σ = f.σ; sum = omega (arith, f.sum); inside = low; turns = f.turns; back = ⊎_elim (λ (z : f.σ ≡ 0). inl z) (λ (past : largest_offset ls + m ≤ f.τ). inr (omega arith)) f.back };
+      (λ (low : suc f.τ < last_offset ls + m + m). record {
+        fold = record { τ = suc f.τ; σ = f.σ; sum = omega (arith, f.sum); inside = low; turns = f.turns; back = ⊎_elim (λ (z : f.σ ≡ 0). inl z) (λ (past : last_offset ls + m ≤ f.τ). inr (omega arith)) f.back };
         dom = subst (Dom f.σ xs) e dom;
       })
-      (λ (high : largest_offset ls + m + m ≤ suc f.τ).
-      let end : suc f.τ ≡ largest_offset ls + m + m = omega (arith, f.inside) in
+      (λ (high : last_offset ls + m + m ≤ suc f.τ).
+      let end : suc f.τ ≡ last_offset ls + m + m = omega (arith, f.inside) in
       let c = f.turns in
       record {
-        fold = record { τ = largest_offset ls + m; σ = f.σ + m; sum = omega (arith, f.sum, end); inside = omega (arith, plan.some); turns = (c.0 + 1, omega (arith, c.1, add-mul c.0 1 m)); back = inr (omega arith) };
-        dom = fold_dom ahead ls m plan ok f.σ xs (subst (Dom f.σ xs) (e ∙ ap (tasks_at ahead ls) end) dom);
+        fold = record { τ = last_offset ls + m; σ = f.σ + m; sum = omega (arith, f.sum, end); inside = omega (arith, plan.some); turns = (c.0 + 1, omega (arith, c.1, add-mul c.0 1 m)); back = inr (omega arith) };
+        dom = fold_dom ahead ls m plan ok f.σ xs (subst (Dom f.σ xs) (e ∙ ap (state_at ahead ls) end) dom);
       })
-      (cases_lt (suc f.τ) (largest_offset ls + m + m))
+      (cases_lt (suc f.τ) (last_offset ls + m + m))
 
   module _ (start : ℕ) (h : History) (s : State) (b : Basic ls start h s) (shadow : Shadowed ahead ls m s.clock s.tasks) where
     -- no line is due
     shadow_clear : (i : ℕ) → i < length ls → due s.clock (task_of s.tasks i) ≡ false
     shadow_clear i p =
         let f = shadow.fold in
-        due_under s.clock f.τ f.σ (task_of s.tasks i) (task_of (tasks_at ahead ls f.τ) i) f.sum (shadow.dom.under i (omega (arith, b.size)))
+        due_under s.clock f.τ f.σ (task_of s.tasks i) (task_of (state_at ahead ls f.τ) i) f.sum (shadow.dom.under i (omega (arith, b.size)))
         (state_clear ahead ls m plan ok f.τ i (omega (arith, f.sum, b.bounded)) f.inside p)
 
     step_shadowed : s.clock < 10 ^ 12 → Shadowed ahead ls m (s.clock + 1) (stepped ahead s.clock s.tasks)
@@ -124,7 +124,7 @@ module _ (ahead : Job → Job → Bool) (lawful : Lawful ahead) (ls : List Line)
         let f = shadow.fold in
         let t = s.clock in
         let xs = s.tasks in
-        let ys = tasks_at ahead ls f.τ in
+        let ys = state_at ahead ls f.τ in
         let here : (i : ℕ) → i < length xs → i < length ls = λ i p. omega (arith, b.size) in
         let low : f.τ ≤ 10 ^ 12 = omega (arith, f.sum, b.bounded) in
         unit_more t (stepped ahead t xs) (stepped ahead f.τ ys) f refl
@@ -133,13 +133,13 @@ module _ (ahead : Job → Job → Bool) (lawful : Lawful ahead) (ls : List Line)
         (λ i p. arrive_both i (here i p))
         (λ i p. arrive_none i (here i p)))
       where
-        awake : (i : ℕ) → i < length ls → releases_at (task_of s.tasks i).line s.clock ≡ arrives shadow.fold.τ (task_of (tasks_at ahead ls shadow.fold.τ) i)
+        awake : (i : ℕ) → i < length ls → releases_at (task_of s.tasks i).line s.clock ≡ arrives shadow.fold.τ (task_of (state_at ahead ls shadow.fold.τ) i)
         awake i p = ap (λ l. releases_at l s.clock) (b.each i p).line ∙ releases_both s.clock i shadow.fold p ∙ sym (state_arrives ahead ls m plan shadow.fold.τ i p)
 
-        arrive_both : (i : ℕ) → i < length ls → arrives s.clock (task_of s.tasks i) ≡ true → arrives shadow.fold.τ (task_of (tasks_at ahead ls shadow.fold.τ) i) ≡ true
+        arrive_both : (i : ℕ) → i < length ls → arrives s.clock (task_of s.tasks i) ≡ true → arrives shadow.fold.τ (task_of (state_at ahead ls shadow.fold.τ) i) ≡ true
         arrive_both i p a = let x = task_of s.tasks i in sym (awake i p) ∙ (and_parts (not x.resting) (releases_at x.line s.clock) a).1
 
-        arrive_none : (i : ℕ) → i < length ls → arrives s.clock (task_of s.tasks i) ≡ false → arrives shadow.fold.τ (task_of (tasks_at ahead ls shadow.fold.τ) i) ≡ true → (task_of s.tasks i).left ≡ 0
+        arrive_none : (i : ℕ) → i < length ls → arrives s.clock (task_of s.tasks i) ≡ false → arrives shadow.fold.τ (task_of (state_at ahead ls shadow.fold.τ) i) ≡ true → (task_of s.tasks i).left ≡ 0
         arrive_none i p silent there =
             let x = task_of s.tasks i in
             ⊎_elim
@@ -151,7 +151,7 @@ module _ (ahead : Job → Job → Bool) (lawful : Lawful ahead) (ls : List Line)
     Fine o = Shadowed ahead ls m o.0.clock o.0.tasks
 
     on_line_shadowed : (n : ℕ) (f : Task → Task) → ((x : Task) → Lowered x (f x)) → Shadowed ahead ls m s.clock (on_line n f s.tasks)
-    on_line_shadowed n f low = record { fold = shadow.fold; dom = on_line_dom shadow.fold.σ n f low s.tasks (tasks_at ahead ls shadow.fold.τ) shadow.dom }
+    on_line_shadowed n f low = record { fold = shadow.fold; dom = on_line_dom shadow.fold.σ n f low s.tasks (state_at ahead ls shadow.fold.τ) shadow.dom }
 
     next_shadowed : (c : Call) → Fine (next_of ahead s c)
     next_shadowed Step = step_outcome Fine ahead s (λ _. shadow) step_shadowed
@@ -161,12 +161,12 @@ module _ (ahead : Job → Job → Bool) (lawful : Lawful ahead) (ls : List Line)
 
   module _ (start : ℕ) where
     shadowed : (h : History) (s : State) → Ran ahead ls start h s → Shadowed ahead ls m s.clock s.tasks
-    shadowed h s r = every_run ahead ls start (λ _ s'. Shadowed ahead ls m s'.clock s'.tasks) (new_shadowed (clock_from start))
-        (λ h' s' c past now. next_shadowed (clock_from start) h' s' (basics ahead lawful ls m start plan h' s' past) now c) h s r
+    shadowed h s r = every_run ahead ls start (λ _ s'. Shadowed ahead ls m s'.clock s'.tasks) (new_shadowed (start_of start))
+        (λ h' s' c past now. next_shadowed (start_of start) h' s' (basics ahead lawful ls m start plan h' s' past) now c) h s r
 
     module _ (h : History) (s : State) (ran : Ran ahead ls start h s) where
       clear : (i : ℕ) → i < length ls → due s.clock (task_of s.tasks i) ≡ false
-      clear = shadow_clear (clock_from start) h s (basics ahead lawful ls m start plan h s ran) (shadowed h s ran)
+      clear = shadow_clear (start_of start) h s (basics ahead lawful ls m start plan h s ran) (shadowed h s ran)
 
       -- No pending job stands at its deadline, or past it.
       pub early : (i : ℕ) → i < length ls → 0 < (task_of s.tasks i).left → s.clock < (task_of s.tasks i).release + (get_or ls i blank).deadline

@@ -10,8 +10,8 @@ use Rattle.model.proofs.Results.{and_then_ok}
 use Rattle.runs.specs.declared.task.Task.{Task}
 use Rattle.runs.specs.Tasks.{due, new_tasks}
 use Rattle.runs.specs.Steps.{lowest_due, Numbered}
-use Rattle.runs.specs.Rehearsals.{load_of, largest_offset, run_units, same_left, settled, and_then, between_marks, rehearsal_of}
-use Rattle.runs.specs.RehearsalRules.{tasks_at}
+use Rattle.runs.specs.Rehearsals.{load_of, last_offset, run_units, same_left, settled, and_then, between_marks, rehearsal_of}
+use Rattle.runs.specs.RehearsalRules.{state_at}
 use Rattle.runs.proofs.Pointwise.{task_of}
 
 -- a test that must hold for what passes
@@ -46,25 +46,25 @@ none_lowest t n (x ∷ xs) p num e (suc i) h = none_lowest t (n + 1) xs (omega a
 
 module _ (ahead : Job → Job → Bool) (ls : List Line) where
   -- units that pass strike nothing out
-  passed : (n t u : ℕ) (ys : List Task) → u ≡ t + n → run_units ahead n t (tasks_at ahead ls t) ≡ Ok ys
-      → (ys ≡ tasks_at ahead ls u) × ((v : ℕ) → t ≤ v → v < u → lowest_due v (tasks_at ahead ls v) ≡ 0)
-  passed zero t u ys e r = let same : t ≡ u = omega arith in (sym (same_ok (tasks_at ahead ls t) ys r) ∙ ap (tasks_at ahead ls) same, λ v low high. absurd (omega arith))
+  passed : (n t u : ℕ) (ys : List Task) → u ≡ t + n → run_units ahead n t (state_at ahead ls t) ≡ Ok ys
+      → (ys ≡ state_at ahead ls u) × ((v : ℕ) → t ≤ v → v < u → lowest_due v (state_at ahead ls v) ≡ 0)
+  passed zero t u ys e r = let same : t ≡ u = omega arith in (sym (same_ok (state_at ahead ls t) ys r) ∙ ap (state_at ahead ls) same, λ v low high. absurd (omega arith))
   passed (suc n) t u ys e r =
-      let now = cond_ok (eqb (lowest_due t (tasks_at ahead ls t)) 0) (run_units ahead n (suc t) (tasks_at ahead ls (suc t))) (Missed t (lowest_due t (tasks_at ahead ls t))) ys r in
+      let now = cond_ok (eqb (lowest_due t (state_at ahead ls t)) 0) (run_units ahead n (suc t) (state_at ahead ls (suc t))) (Missed t (lowest_due t (state_at ahead ls t))) ys r in
       let on = passed n (suc t) u ys (omega arith) now.1 in (
         on.0,
         λ v low high. ⊎_elim
-            (λ (same : t ≡ v). subst (λ w. lowest_due w (tasks_at ahead ls w) ≡ 0) same (eqb-true _ _ now.0))
+            (λ (same : t ≡ v). subst (λ w. lowest_due w (state_at ahead ls w) ≡ 0) same (eqb-true _ _ now.0))
             (λ (other : t ≡ v → ⊥). on.1 v (omega (arith, other)) high)
             (cases_eq t v),
       )
 
   module _ (m : ℕ) (ok : rehearsal_of ahead m ls ≡ Ok tt) where
     -- Up to the second mark nothing is due; at both marks the same units are left.
-    pub marks : ((n : ℕ) → n < largest_offset ls + m + m → lowest_due n (tasks_at ahead ls n) ≡ 0)
-        × (same_left (tasks_at ahead ls (largest_offset ls + m)) (tasks_at ahead ls (largest_offset ls + m + m)) ≡ true)
+    pub marks : ((n : ℕ) → n < last_offset ls + m + m → lowest_due n (state_at ahead ls n) ≡ 0)
+        × (same_left (state_at ahead ls (last_offset ls + m)) (state_at ahead ls (last_offset ls + m + m)) ≡ true)
     marks =
-        let mark = largest_offset ls + m in
+        let mark = last_offset ls + m in
         let run = cond_ok_not (ltb m (load_of m ls)) (between_marks ahead mark m (new_tasks 1 ls)) Overload tt ok in
         let first = and_then_ok (run_units ahead mark 0 (new_tasks 1 ls)) (λ first. and_then (run_units ahead m mark first) (λ second. settled first second)) tt run in
         let second = and_then_ok (run_units ahead m mark first.0) (settled first.0) tt first.2 in

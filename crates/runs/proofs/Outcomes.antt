@@ -1,5 +1,5 @@
 -- What each call comes to: it is refused and leaves the state as it was, or it is accepted.
-use Rattle.std.proofs.Common.{◌≡◌, ℕ, ◌+◌, ◌-◌, ◌^◌, ◌<◌, ◌≤◌, Bool, true, false, ltb, leb, List, length, Result, refl}
+use Rattle.std.proofs.Common.{◌≡◌, ℕ, ◌+◌, ◌-◌, ◌^◌, ◌<◌, ◌≤◌, Bool, true, false, ltb, leb, List, length, ◌&&◌, refl}
 use Rattle.std.proofs.lemmas.Bool.{and_parts, cond_both, leb-true, ltb-true}
 use Rattle.model.specs.Ranges.{is_regular}
 use Rattle.model.specs.declared.fault.Fault.{Fault}
@@ -11,10 +11,11 @@ use Rattle.runs.specs.declared.call.Reply.TheVariants.{Done, Refused}
 use Rattle.runs.specs.declared.call.Reply.TheVariants.{Unit as UnitGiven}
 use Rattle.runs.specs.declared.jitter.Track.{Track}
 use Rattle.runs.specs.declared.task.Task.{Task}
+use Rattle.executive.specs.Changes.{alike, line_to_change}
 use Rattle.runs.specs.Tasks.{ended_early, rested, resumed}
 use Rattle.runs.specs.Steps.{stepped, report_of}
 use Rattle.runs.specs.Jitter.{note_start}
-use Rattle.runs.specs.Calls.{State, state_of, Outcome, last_clock, last_of, step_of, on_line, end_of, aside_of, is_line, alike, line_to_change, by_change, rest_of, resume_of}
+use Rattle.runs.specs.Calls.{State, state_of, Outcome, last_clock, last_of, step_of, on_line, end_of, aside_of, is_line, rest_of, resume_of}
 use Rattle.runs.proofs.Pointwise.{task_of}
 
 -- what an accepted step leaves
@@ -54,28 +55,22 @@ ordinary_line xs number e ordinary =
     let parts = and_parts (leb 1 number) (leb number (length xs)) e in
     record { some = leb-true 1 number parts.0; inside = leb-true number (length xs) parts.1; ordinary = ordinary }
 
-change_outcome : (P : Outcome → Type 0) (resting : Bool) (number : ℕ) (s : State) (changed : Outcome)
-    → ((f : Fault) → P (s, Refused f))
-    → (OrdinaryLine s.tasks number → P changed)
-    → P (by_change (line_to_change resting number s.tasks) s changed)
-change_outcome P resting number s changed refused done =
-    let x : Task = task_of s.tasks (number - 1) in
-    cond_both (is_line (length s.tasks) number) _ _ By
-    (λ is. cond_both (is_regular x.line) _ _ By (λ _. refused (RegularLine number))
-    (λ ordinary. cond_both (alike x.resting resting) _ _ By (λ _. refused (RestAsItIs number)) (λ _. done (ordinary_line s.tasks number is ordinary))))
-    (λ _. refused (NoSuchLine number))
-  where
-    By : Result ℕ Fault → Type 0
-    By q = P (by_change q s changed)
-
 pub rest_outcome : (P : Outcome → Type 0) (number : ℕ) (s : State)
     → ((f : Fault) → P (s, Refused f))
     → (OrdinaryLine s.tasks number → P (state_of s.clock (on_line number rested s.tasks) (aside_of number s.last) s.tracks, Done))
     → P (rest_of number s)
-rest_outcome P number s = change_outcome P true number s _
+rest_outcome P number s refused done =
+    cond_both (leb 1 number && leb number (length s.tasks)) _ _ P
+    (λ is. cond_both (is_regular (task_of s.tasks (number - 1)).line) _ _ P (λ _. refused (RegularLine number))
+    (λ ordinary. cond_both _ _ _ P (λ _. refused (RestAsItIs number)) (λ _. done (ordinary_line s.tasks number is ordinary))))
+    (λ _. refused (NoSuchLine number))
 
 pub resume_outcome : (P : Outcome → Type 0) (number : ℕ) (s : State)
     → ((f : Fault) → P (s, Refused f))
     → (OrdinaryLine s.tasks number → P (state_of s.clock (on_line number resumed s.tasks) s.last s.tracks, Done))
     → P (resume_of number s)
-resume_outcome P number s = change_outcome P false number s _
+resume_outcome P number s refused done =
+    cond_both (leb 1 number && leb number (length s.tasks)) _ _ P
+    (λ is. cond_both (is_regular (task_of s.tasks (number - 1)).line) _ _ P (λ _. refused (RegularLine number))
+    (λ ordinary. cond_both _ _ _ P (λ _. refused (RestAsItIs number)) (λ _. done (ordinary_line s.tasks number is ordinary))))
+    (λ _. refused (NoSuchLine number))

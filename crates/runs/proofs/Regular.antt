@@ -18,8 +18,8 @@ use Rattle.runs.specs.declared.call.StepReport.{StepReport}
 use Rattle.runs.specs.declared.task.Task.{Task}
 use Rattle.runs.specs.Tasks.{pending, due, struck, releases_at, arrived, job_of, served, ended_early, rested, resumed, blank_task}
 use Rattle.runs.specs.Steps.{first_of, arrived_all, stepped, report_of, ToFirst}
-use Rattle.runs.specs.Calls.{State, state_of, Outcome, begun, on_line, end_of, aside_of, next_of, clock_from}
-use Rattle.runs.specs.Histories.{Event, event, History, unit_of, clock_of, line_at, EndAt, rests_after, release, Ran}
+use Rattle.runs.specs.Calls.{State, state_of, Outcome, begun, on_line, end_of, aside_of, next_of}
+use Rattle.runs.specs.Histories.{Event, event, History, unit_of, clock_of, line_at, EndAt, rests_after, release, Ran, start_of}
 use Rattle.runs.specs.Promise.{SoundPlan, EndedBy, Regularly}
 use Rattle.runs.proofs.Reported.{report_line}
 use Rattle.runs.proofs.Arrivals.{release_at_lem, no_release, struck_not, arrived_new, arrived_old}
@@ -313,27 +313,27 @@ module _ (ls : List Line) (start : ℕ) (h : History) (s : State) (b : Basic ls 
 
 -- Every run: at its start, and after one call more.
 module _ (ahead : Job → Job → Bool) (lawful : Lawful ahead) (ls : List Line) (m start : ℕ) (sound : SoundPlan ls m) where
-  at_start : Steady ls (clock_from start) [] (begun start ls)
+  at_start : Steady ls (start_of start) [] (begun start ls)
   at_start = record {
-    each = λ i p reg. subst (Unbroken ls (clock_from start) (clock_from start) [] i) (sym (new_tasks_at 1 ls i blank_task blank p))
+    each = λ i p reg. subst (Unbroken ls (start_of start) (start_of start) [] i) (sym (new_tasks_at 1 ls i blank_task blank p))
         (record { even = λ q. absurd (omega arith); held = λ k low from to. absurd (omega arith) });
     regularly = λ i k u p reg low from to before. absurd (omega arith);
   }
 
-  one_more : (h : History) (s : State) (c : Call) → Ran ahead ls start h s → Steady ls (clock_from start) h s → Steady ls (clock_from start) (push h (event c (next_of ahead s c).1)) (next_of ahead s c).0
+  one_more : (h : History) (s : State) (c : Call) → Ran ahead ls start h s → Steady ls (start_of start) h s → Steady ls (start_of start) (push h (event c (next_of ahead s c).1)) (next_of ahead s c).0
   one_more h s c r st = by c
     where
-      b : Basic ls (clock_from start) h s
+      b : Basic ls (start_of start) h s
       b = basics ahead lawful ls m start sound h s r
 
-      by : (c' : Call) → Steady ls (clock_from start) (push h (event c' (next_of ahead s c').1)) (next_of ahead s c').0
-      by Step = step_outcome (λ o. Steady ls (clock_from start) (push h (event Step o.1)) o.0) ahead s (refused_steady ls (clock_from start) h s b st Step) (step_steady ls (clock_from start) h s b st ahead lawful m sound)
-      by EarlyEnd = end_steady ls (clock_from start) h s b st
-      by (Rest number) = rest_outcome (λ o. Steady ls (clock_from start) (push h (event (Rest number) o.1)) o.0) number s (refused_steady ls (clock_from start) h s b st (Rest number)) (ordinary_steady ls (clock_from start) h s b st (Rest number) number rested (aside_of number s.last))
-      by (Resume number) = resume_outcome (λ o. Steady ls (clock_from start) (push h (event (Resume number) o.1)) o.0) number s (refused_steady ls (clock_from start) h s b st (Resume number)) (ordinary_steady ls (clock_from start) h s b st (Resume number) number resumed s.last)
+      by : (c' : Call) → Steady ls (start_of start) (push h (event c' (next_of ahead s c').1)) (next_of ahead s c').0
+      by Step = step_outcome (λ o. Steady ls (start_of start) (push h (event Step o.1)) o.0) ahead s (refused_steady ls (start_of start) h s b st Step) (step_steady ls (start_of start) h s b st ahead lawful m sound)
+      by EarlyEnd = end_steady ls (start_of start) h s b st
+      by (Rest number) = rest_outcome (λ o. Steady ls (start_of start) (push h (event (Rest number) o.1)) o.0) number s (refused_steady ls (start_of start) h s b st (Rest number)) (ordinary_steady ls (start_of start) h s b st (Rest number) number rested (aside_of number s.last))
+      by (Resume number) = resume_outcome (λ o. Steady ls (start_of start) (push h (event (Resume number) o.1)) o.0) number s (refused_steady ls (start_of start) h s b st (Resume number)) (ordinary_steady ls (start_of start) h s b st (Resume number) number resumed s.last)
 
-  pub steady : (h : History) (s : State) → Ran ahead ls start h s → Steady ls (clock_from start) h s
-  steady h s r = every_run ahead ls start (Steady ls (clock_from start)) at_start one_more h s r
+  pub steady : (h : History) (s : State) → Ran ahead ls start h s → Steady ls (start_of start) h s
+  steady h s r = every_run ahead ls start (Steady ls (start_of start)) at_start one_more h s r
 
-  pub regularly : (h : History) (s : State) → Ran ahead ls start h s → Regularly ls (clock_from start) h
+  pub regularly : (h : History) (s : State) → Ran ahead ls start h s → Regularly ls (start_of start) h
   regularly h s r = (steady h s r).regularly

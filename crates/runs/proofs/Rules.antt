@@ -9,7 +9,7 @@ use Rattle.runs.specs.declared.task.Task.{Task}
 use Rattle.runs.specs.Tasks.{new_tasks}
 use Rattle.runs.specs.Steps.{Numbered, lowest_due}
 use Rattle.runs.specs.Rehearsals.{load_of, run_units, same_left, settled, and_then, between_marks, rehearsal_of}
-use Rattle.runs.specs.RehearsalRules.{OnlyRehearsed, tasks_at, NoneStruckBelow, LowestStruck, units_left, first_mark, second_mark, Rehearsed, passed, overload, missed, unsettled}
+use Rattle.runs.specs.RehearsalRules.{OnlyRehearsed, state_at, NoneStruckBelow, LowestStruck, units_left, first_mark, second_mark, Rehearsed, passed, overload, missed, unsettled}
 use Rattle.runs.proofs.Keeps.{stepped_numbered}
 use Rattle.runs.proofs.Lowest.{lowest_zero, lowest_struck, lowest_struck_once, struck_not_clear}
 use Rattle.runs.proofs.NewTasks.{new_numbered}
@@ -35,19 +35,19 @@ same_left_lem (x ∷ xs) (y ∷ ys) e =
     and_from (eqb x.left y.left) (same_left xs ys) (eq-eqb _ _ head) (same_left_lem xs ys tail)
 
 module _ (ahead : Job → Job → Bool) (ls : List Line) where
-  state_numbered : (t : ℕ) → Numbered 1 (tasks_at ahead ls t)
+  state_numbered : (t : ℕ) → Numbered 1 (state_at ahead ls t)
   state_numbered zero = new_numbered 1 ls
-  state_numbered (suc t) = stepped_numbered ahead t (tasks_at ahead ls t) 1 (state_numbered t)
+  state_numbered (suc t) = stepped_numbered ahead t (state_at ahead ls t) 1 (state_numbered t)
 
   abbrev lowest_at : ℕ → ℕ
-  lowest_at t = lowest_due t (tasks_at ahead ls t)
+  lowest_at t = lowest_due t (state_at ahead ls t)
 
   abbrev run_of : ℕ → ℕ → Result (List Task) Fault
-  run_of n t = run_units ahead n t (tasks_at ahead ls t)
+  run_of n t = run_units ahead n t (state_at ahead ls t)
 
   -- the run comes to its end with nothing struck out, or stops at the first instant that strikes one out
   abbrev Went : ℕ → ℕ → ℕ → Type 0
-  Went n t end = ((u : ℕ) → t ≤ u → u < end → lowest_at u ≡ 0) × (run_of n t ≡ Ok (tasks_at ahead ls end))
+  Went n t end = ((u : ℕ) → t ≤ u → u < end → lowest_at u ≡ 0) × (run_of n t ≡ Ok (state_at ahead ls end))
 
   abbrev Stopped : ℕ → ℕ → ℕ → Type 0
   Stopped n t end = (u : ℕ) × (t ≤ u) × (u < end) × ((v : ℕ) → t ≤ v → v < u → lowest_at v ≡ 0) × (lowest_at u ≡ 0 → ⊥) × (run_of n t ≡ Err (Missed u (lowest_at u)))
@@ -58,7 +58,7 @@ module _ (ahead : Job → Job → Bool) (ls : List Line) where
   run_ends : (n t end : ℕ) → end ≡ t + n → Went n t end ⊎ Stopped n t end
   run_ends zero t end e =
       let here : t ≡ end = omega arith in
-      inl ((λ u p q. absurd (omega arith)), ap (λ m. Ok (tasks_at ahead ls m)) here)
+      inl ((λ u p q. absurd (omega arith)), ap (λ m. Ok (state_at ahead ls m)) here)
   run_ends (suc n) t end e =
       ⊎_elim
       (λ (none : lowest_at t ≡ 0).
@@ -71,16 +71,16 @@ module _ (ahead : Job → Job → Bool) (ls : List Line) where
       (cases_eq (lowest_at t) 0)
 
   clear_below : (n : ℕ) → ((u : ℕ) → u < n → lowest_at u ≡ 0) → NoneStruckBelow ahead ls n
-  clear_below n quiet t h = lowest_zero t 1 (tasks_at ahead ls t) (omega arith) (state_numbered t) (quiet t h)
+  clear_below n quiet t h = lowest_zero t 1 (state_at ahead ls t) (omega arith) (state_numbered t) (quiet t h)
 
   module _ (h : ℕ) where
     struck_first : (u : ℕ) → load_of h ls ≤ h → u < second_mark h ls → ((v : ℕ) → v < u → lowest_at v ≡ 0) → (lowest_at u ≡ 0 → ⊥) → Rehearsed ahead h ls (Err (Missed u (lowest_at u)))
-    struck_first u light in' quiet some = missed u (lowest_at u) light in' (clear_below u quiet) (lowest_struck u (tasks_at ahead ls u) (state_numbered u) some)
+    struck_first u light in' quiet some = missed u (lowest_at u) light in' (clear_below u quiet) (lowest_struck u (state_at ahead ls u) (state_numbered u) some)
 
-    compared : load_of h ls ≤ h → NoneStruckBelow ahead ls (second_mark h ls) → Rehearsed ahead h ls (settled (tasks_at ahead ls (first_mark h ls)) (tasks_at ahead ls (second_mark h ls)))
+    compared : load_of h ls ≤ h → NoneStruckBelow ahead ls (second_mark h ls) → Rehearsed ahead h ls (settled (state_at ahead ls (first_mark h ls)) (state_at ahead ls (second_mark h ls)))
     compared light clear =
-        let xs = tasks_at ahead ls (first_mark h ls) in
-        let ys = tasks_at ahead ls (second_mark h ls) in
+        let xs = state_at ahead ls (first_mark h ls) in
+        let ys = state_at ahead ls (second_mark h ls) in
         ⊎_elim
         (λ (same : same_left xs ys ≡ true). subst (Rehearsed ahead h ls) (sym (cond-true (same_left xs ys) (Ok tt) (Err Unsettled) same)) (passed light clear (same_units xs ys same)))
         (λ (differ : same_left xs ys ≡ false). subst (Rehearsed ahead h ls) (sym (cond-false (same_left xs ys) (Ok tt) (Err Unsettled) differ)) (unsettled light clear (λ e. both_ways _ differ (same_left_lem xs ys e))))
@@ -90,13 +90,13 @@ module _ (ahead : Job → Job → Bool) (ls : List Line) where
     after_first first = and_then (run_units ahead h (first_mark h ls) first) (λ second. settled first second)
 
     -- from the first mark on
-    to_second : load_of h ls ≤ h → ((u : ℕ) → u < first_mark h ls → lowest_at u ≡ 0) → Rehearsed ahead h ls (after_first (tasks_at ahead ls (first_mark h ls)))
+    to_second : load_of h ls ≤ h → ((u : ℕ) → u < first_mark h ls → lowest_at u ≡ 0) → Rehearsed ahead h ls (after_first (state_at ahead ls (first_mark h ls)))
     to_second light quiet =
         let m = first_mark h ls in
         let before : (n : ℕ) → ((u : ℕ) → m ≤ u → u < n → lowest_at u ≡ 0) → (u : ℕ) → u < n → lowest_at u ≡ 0 = λ n rest u q. ⊎_elim (quiet u) (λ (p : m ≤ u). rest u p q) (cases_lt u m) in
         ⊎_elim
-        (λ (w : Went h m (second_mark h ls)). subst (λ r. Rehearsed ahead h ls (and_then r (λ second. settled (tasks_at ahead ls m) second))) (sym w.1) (compared light (clear_below (second_mark h ls) (before (second_mark h ls) w.0))))
-        (λ (s : Stopped h m (second_mark h ls)). subst (λ r. Rehearsed ahead h ls (and_then r (λ second. settled (tasks_at ahead ls m) second))) (sym s.5) (struck_first s.0 light s.2 (before s.0 s.3) s.4))
+        (λ (w : Went h m (second_mark h ls)). subst (λ r. Rehearsed ahead h ls (and_then r (λ second. settled (state_at ahead ls m) second))) (sym w.1) (compared light (clear_below (second_mark h ls) (before (second_mark h ls) w.0))))
+        (λ (s : Stopped h m (second_mark h ls)). subst (λ r. Rehearsed ahead h ls (and_then r (λ second. settled (state_at ahead ls m) second))) (sym s.5) (struck_first s.0 light s.2 (before s.0 s.3) s.4))
         (run_ends h m (second_mark h ls) refl)
 
     at_marks : load_of h ls ≤ h → Rehearsed ahead h ls (between_marks ahead (first_mark h ls) h (new_tasks 1 ls))
@@ -116,19 +116,19 @@ module _ (ahead : Job → Job → Bool) (ls : List Line) where
         (cases_lt h (load_of h ls))
 
   -- what no two results have in common
-  struck_later : (h t line : ℕ) → t < second_mark h ls → LowestStruck t (tasks_at ahead ls t) line → NoneStruckBelow ahead ls (second_mark h ls) → ⊥
-  struck_later h t line in' struck clear = struck_not_clear t (tasks_at ahead ls t) line struck (clear t in')
+  struck_later : (h t line : ℕ) → t < second_mark h ls → LowestStruck t (state_at ahead ls t) line → NoneStruckBelow ahead ls (second_mark h ls) → ⊥
+  struck_later h t line in' struck clear = struck_not_clear t (state_at ahead ls t) line struck (clear t in')
 
-  same_miss : (t u l m : ℕ) → NoneStruckBelow ahead ls t → LowestStruck t (tasks_at ahead ls t) l → NoneStruckBelow ahead ls u → LowestStruck u (tasks_at ahead ls u) m → ◌≡◌ {A = Result (Unit {0}) Fault} (Err (Missed t l)) (Err (Missed u m))
+  same_miss : (t u l m : ℕ) → NoneStruckBelow ahead ls t → LowestStruck t (state_at ahead ls t) l → NoneStruckBelow ahead ls u → LowestStruck u (state_at ahead ls u) m → ◌≡◌ {A = Result (Unit {0}) Fault} (Err (Missed t l)) (Err (Missed u m))
   same_miss t u l m clear struck clear' struck' =
       ⊎_elim
       (λ (same : t ≡ u).
-      let line : l ≡ m = lowest_struck_once u (tasks_at ahead ls u) l m (subst (λ v. LowestStruck v (tasks_at ahead ls v) l) same struck) struck' in
+      let line : l ≡ m = lowest_struck_once u (state_at ahead ls u) l m (subst (λ v. LowestStruck v (state_at ahead ls v) l) same struck) struck' in
       cc)
       (λ (apart : (t < u) ⊎ (u < t)).
       ⊎_elim
-      (λ (low : t < u). absurd (struck_not_clear t (tasks_at ahead ls t) l struck (clear' t low)))
-      (λ (high : u < t). absurd (struck_not_clear u (tasks_at ahead ls u) m struck' (clear u high)))
+      (λ (low : t < u). absurd (struck_not_clear t (state_at ahead ls t) l struck (clear' t low)))
+      (λ (high : u < t). absurd (struck_not_clear u (state_at ahead ls u) m struck' (clear u high)))
       apart)
       (cases_order t u)
 

@@ -15,8 +15,8 @@ use Rattle.runs.specs.declared.call.StepReport.{StepReport}
 use Rattle.runs.specs.declared.task.Counts.{Counts}
 use Rattle.runs.specs.declared.task.Task.{Task}
 use Rattle.runs.specs.Tasks.{pending, due, struck, releases_at, arrives, admitted, arrived, given, served, ended_early, rested, resumed}
-use Rattle.runs.specs.Calls.{State, clock_from}
-use Rattle.runs.specs.Histories.{Event, event, History, unit_of, units_of, clock_of, RestAt, releases_in, Ran}
+use Rattle.runs.specs.Calls.{State}
+use Rattle.runs.specs.Histories.{Event, event, History, unit_of, units_of, clock_of, RestAt, releases_in, Ran, start_of}
 use Rattle.runs.specs.Promise.{SoundPlan, Tallied}
 use Rattle.runs.proofs.Arrivals.{no_release}
 use Rattle.runs.proofs.Basics.{Basic, basics, LastKept}
@@ -92,7 +92,7 @@ rested_made x = cond_both (pending x) _ _ (λ (z : Task). z.counts.made ≡ x.co
 
 module _ (ahead : Job → Job → Bool) (lawful : Lawful ahead) (ls : List Line) (m start : ℕ) (sound : SoundPlan ls m) where
   module _ (i : ℕ) (in' : i < length ls) where
-    basic : (h : History) (s : State) → Ran ahead ls start h s → Basic ls (clock_from start) h s
+    basic : (h : History) (s : State) → Ran ahead ls start h s → Basic ls (start_of start) h s
     basic = basics ahead lawful ls m start sound
 
     -- at a release the line's last job is over
@@ -128,7 +128,7 @@ module _ (ahead : Job → Job → Bool) (lawful : Lawful ahead) (ls : List Line)
     last_waits : (h : History) (s : State) → Ran ahead ls start h s → s.last ≡ Running (i + 1) → 0 < (task_of s.tasks i).left
     last_waits h s ran last =
         let here : i + 1 - 1 ≡ i = omega arith in
-        subst (λ j. 0 < (task_of s.tasks j).left) here (subst (LastKept (clock_from start) h s.clock s.tasks) last (basic h s ran).last).pending
+        subst (λ j. 0 < (task_of s.tasks j).left) here (subst (LastKept (start_of start) h s.clock s.tasks) last (basic h s ran).last).pending
 
     balanced : (h : History) (s : State) → Ran ahead ls start h s → Balanced (task_of s.tasks i)
     balanced = every_line ahead lawful ls m start sound i in' (λ _ _ x. Balanced x) (record {
@@ -142,16 +142,16 @@ module _ (ahead : Job → Job → Bool) (lawful : Lawful ahead) (ls : List Line)
 
     -- no rest of the line was accepted
     abbrev Unrested : History → Type 0
-    Unrested h = (c : ℕ) → RestAt (clock_from start) h (i + 1) c → ⊥
+    Unrested h = (c : ℕ) → RestAt (start_of start) h (i + 1) c → ⊥
 
     abbrev Made : History → ℕ → Task → Type 0
-    Made h t x = Unrested h → (x.resting ≡ false) × (x.counts.made ≡ releases_in (get_or ls i blank) (clock_from start) (length (units_of h)))
+    Made h t x = Unrested h → (x.resting ≡ false) × (x.counts.made ≡ releases_in (get_or ls i blank) (start_of start) (length (units_of h)))
 
     unrested : (h : History) (e : Event) → Unrested (push h e) → Unrested h
-    unrested h e never c at = never c (rest_older (clock_from start) h e (i + 1) c at)
+    unrested h e never c at = never c (rest_older (start_of start) h e (i + 1) c at)
 
     one_more : (h : History) (r : StepReport) → length (units_of (push h (event Step (UnitGiven r)))) ≡ suc (length (units_of h))
-    one_more h r = omega (arith, ap length (units_step (clock_from start) h r), length-append (units_of h) (r.line ∷ []))
+    one_more h r = omega (arith, ap length (units_step (start_of start) h r), length-append (units_of h) (r.line ∷ []))
 
     made_step : (h : History) (s s' : State) (r : StepReport) → Ran ahead ls start h s → Stepped i s s' r → Made h s.clock (task_of s.tasks i) → Made (push h (event Step (UnitGiven r))) (s.clock + 1) (served r.line (arrived s.clock (task_of s.tasks i)))
     made_step h s s' r ran st made never =
@@ -160,18 +160,18 @@ module _ (ahead : Job → Job → Bool) (lawful : Lawful ahead) (ls : List Line)
         let b = basic h s ran in
         let old = made (unrested h (event Step (UnitGiven r)) never) in
         let same = served_same r.line (arrived t x) in
-        let releasing : arrives t x ≡ releases_at (get_or ls i blank) (clock_of (clock_from start) h) =
+        let releasing : arrives t x ≡ releases_at (get_or ls i blank) (clock_of (start_of start) h) =
         ap (λ q. not q && releases_at x.line t) old.0 ∙ ap (λ l. releases_at l t) (b.each i in').line ∙ ap (releases_at (get_or ls i blank)) b.clock in (
           same.1 ∙ arrived_resting t x ∙ old.0,
           same.0 ∙ made_by_arrival t x ∙ ap (λ q. x.counts.made + cond q 1 0) releasing
-              ∙ ap (λ n. n + cond (releases_at (get_or ls i blank) (clock_of (clock_from start) h)) 1 0) old.1
-              ∙ ap (releases_in (get_or ls i blank) (clock_from start)) (sym (one_more h r)),
+              ∙ ap (λ n. n + cond (releases_at (get_or ls i blank) (clock_of (start_of start) h)) 1 0) old.1
+              ∙ ap (releases_in (get_or ls i blank) (start_of start)) (sym (one_more h r)),
         )
 
     made_same : (h : History) (e : Event) (t : ℕ) (x y : Task) → unit_of e.reply ≡ [] → (x.resting ≡ false → y.resting ≡ false) → y.counts.made ≡ x.counts.made → Made h t x → Made (push h e) t y
     made_same h e t x y none up same made never =
         let old = made (unrested h e never) in
-        (up old.0, same ∙ old.1 ∙ ap (λ us. releases_in (get_or ls i blank) (clock_from start) (length us)) (sym (units_same h e none)))
+        (up old.0, same ∙ old.1 ∙ ap (λ us. releases_in (get_or ls i blank) (start_of start) (length us)) (sym (units_same h e none)))
 
     made_all : (h : History) (s : State) → Ran ahead ls start h s → Made h s.clock (task_of s.tasks i)
     made_all = every_line ahead lawful ls m start sound i in' Made (record {
@@ -179,7 +179,7 @@ module _ (ahead : Job → Job → Bool) (lawful : Lawful ahead) (ls : List Line)
       step = made_step;
       none = λ h s e ran none. made_same h e s.clock (task_of s.tasks i) (task_of s.tasks i) none (λ up. up) refl;
       early = λ h s ran last. made_same h (event EarlyEnd Done) s.clock (task_of s.tasks i) (ended_early (task_of s.tasks i)) refl (λ up. up) refl;
-      aside = λ h s ran made never. absurd (never (clock_of (clock_from start) h) (rest_now (clock_from start) h (i + 1)));
+      aside = λ h s ran made never. absurd (never (clock_of (start_of start) h) (rest_now (start_of start) h (i + 1)));
       again = λ h s ran. made_same h (event (Resume (i + 1)) Done) s.clock (task_of s.tasks i) (resumed (task_of s.tasks i)) refl (λ _. refl) refl;
     })
 
@@ -197,7 +197,7 @@ module _ (ahead : Job → Job → Bool) (lawful : Lawful ahead) (ls : List Line)
         at_most_one : (b : Bool) → cond b 1 0 ≤ 1
         at_most_one b = cond_both b 1 0 (λ n. n ≤ 1) (λ _. omega arith) (λ _. omega arith)
 
-  pub tallied : (h : History) (s : State) → Ran ahead ls start h s → Tallied ls (clock_from start) h s
+  pub tallied : (h : History) (s : State) → Ran ahead ls start h s → Tallied ls (start_of start) h s
   tallied h s ran = record {
     balanced = λ i in'. balanced i in' h s ran;
     releases = λ i in' never. (made_all i in' h s ran never).1;

@@ -16,8 +16,8 @@ use Rattle.runs.specs.declared.call.StepReport.{StepReport}
 use Rattle.runs.specs.declared.task.Task.{Task}
 use Rattle.runs.specs.Tasks.{due, arrived, served, ended_early, rested, resumed, new_task, blank_task}
 use Rattle.runs.specs.Steps.{first_of, number_of, arrived_all, report_for, report_of, First, ToFirst, WellFormed}
-use Rattle.runs.specs.Calls.{State, state_of, Outcome, step_of, on_line, aside_of, next_of, clock_from}
-use Rattle.runs.specs.Histories.{Event, event, History, unit_of, RanFrom, Ran}
+use Rattle.runs.specs.Calls.{State, state_of, Outcome, step_of, on_line, aside_of, next_of}
+use Rattle.runs.specs.Histories.{Event, event, History, unit_of, RanFrom, Ran, start_of}
 use Rattle.runs.specs.Promise.{SoundPlan}
 use Rattle.runs.proofs.Reported.{report_line, report_struck}
 use Rattle.runs.proofs.Basics.{Basic, basics, formed, first_place}
@@ -146,7 +146,7 @@ module _ (ahead : Job → Job → Bool) (lawful : Lawful ahead) where
   -- What a start brings about and every call carries on, of one line and the clock, holds of every run.
   module _ (ls : List Line) (m start : ℕ) (sound : SoundPlan ls m) (i : ℕ) (in' : i < length ls) where
     pub record Carried (Q : History → ℕ → Task → Type 0) : Type 0 where
-      pub first : Q [] (clock_from start) (new_task (i + 1) (get_or ls i blank))
+      pub first : Q [] (start_of start) (new_task (i + 1) (get_or ls i blank))
       pub step : (h : History) (s s' : State) (r : StepReport) → Ran ahead ls start h s → Stepped i s s' r → Q h s.clock (task_of s.tasks i)
           → Q (push h (event Step (UnitGiven r))) (s.clock + 1) (served r.line (arrived s.clock (task_of s.tasks i)))
       pub none : (h : History) (s : State) (e : Event) → Ran ahead ls start h s → unit_of e.reply ≡ [] → Q h s.clock (task_of s.tasks i) → Q (push h e) s.clock (task_of s.tasks i)
@@ -172,6 +172,6 @@ module _ (ahead : Job → Job → Bool) (lawful : Lawful ahead) where
 
       pub every_line : (h : History) (s : State) → Ran ahead ls start h s → Q h s.clock (task_of s.tasks i)
       every_line h s = every_run ahead ls start On
-          (subst (Q [] (clock_from start)) (sym (new_tasks_at 1 ls i blank_task blank in' ∙ ap (λ n. new_task n (get_or ls i blank)) (omega arith))) c.first)
-          (λ g q call ran on. on_turn g q ran on (event call (next_of ahead q call).1) (next_of ahead q call).0 (turn ls m (clock_from start) sound g q (basics ahead lawful ls m start sound g q ran) i in' call))
+          (subst (Q [] (start_of start)) (sym (new_tasks_at 1 ls i blank_task blank in' ∙ ap (λ n. new_task n (get_or ls i blank)) (omega arith))) c.first)
+          (λ g q call ran on. on_turn g q ran on (event call (next_of ahead q call).1) (next_of ahead q call).0 (turn ls m (start_of start) sound g q (basics ahead lawful ls m start sound g q ran) i in' call))
           h s

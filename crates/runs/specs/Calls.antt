@@ -1,14 +1,11 @@
 -- The state of an executive, and what one call makes of it and replies.
 --   State       the clock, the lines under way, where the last unit went, and the tracks of the lines
 --   last_clock   the clock at which no step is taken any more
---   clock_from   the clock with which a run begins
 --   begun       an executive that has been started
 --   is_line      there is a line of that number
---   alike       two answers are the same
---   change_of, line_to_change   the line that a rest or a resume is for, or why it is refused
 --   step_of, end_of, rest_of, resume_of   the four calls
 --   next_of      any of them
-use Rattle.std.specs.Prelude.{ℕ, ◌+◌, ◌-◌, ◌^◌, min, Bool, true, false, cond, ◌&&◌, List, map, length, Ok, Err, Result, ◌==◌, nat_le, nat_lt, slice_index_or}
+use Rattle.std.specs.Prelude.{ℕ, ◌+◌, ◌-◌, ◌^◌, min, Bool, true, false, cond, ◌&&◌, List, map, length, ◌==◌, nat_le, nat_lt, slice_index_or}
 use Rattle.model.specs.Ranges.{is_regular}
 use Rattle.model.specs.declared.fault.Fault.{Fault}
 use Rattle.model.specs.declared.fault.Fault.TheVariants.{ClockAtEnd, NoJob, NoSuchLine, RegularLine, RestAsItIs}
@@ -44,12 +41,8 @@ Outcome = State × Reply
 abbrev pub last_clock : ℕ
 last_clock = 10 ^ 12
 
--- an instant above the last clock counts as the last clock
-abbrev pub clock_from : ℕ → ℕ
-clock_from start = min start last_clock
-
 abbrev pub begun : ℕ → List Line → State
-begun start ls = state_of (clock_from start) (new_tasks 1 ls) Idle (no_tracks ls)
+begun start ls = state_of (min start last_clock) (new_tasks 1 ls) Idle (no_tracks ls)
 
 abbrev refused_as : Fault → State → Outcome
 refused_as f s = (s, Refused f)
@@ -87,30 +80,25 @@ aside_of number (Running l) = cond (l == number) (Ended l) (Running l)
 abbrev pub is_line : ℕ → ℕ → Bool
 is_line n number = nat_le 1 number && nat_le number n
 
--- both are yes, or both are no
-abbrev pub alike : Bool → Bool → Bool
-alike true b = b
-alike false true = false
-alike false false = true
-
--- Line x is to rest, or to rest no more, as `resting` says: only an ordinary line may, and only if it
--- is not so already.
-abbrev pub change_of : Bool → ℕ → Task → Result ℕ Fault
-change_of resting number x = cond (is_regular x.line) (Err (RegularLine number)) (cond (alike x.resting resting) (Err (RestAsItIs number)) (Ok number))
-
--- the same for the line of that number, if there is one
-abbrev pub line_to_change : Bool → ℕ → List Task → Result ℕ Fault
-line_to_change resting number xs = cond (is_line (length xs) number) (change_of resting number (slice_index_or xs (number - 1) blank_task)) (Err (NoSuchLine number))
-
-abbrev pub by_change : Result ℕ Fault → State → Outcome → Outcome
-by_change (Ok _) s done = done
-by_change (Err f) s done = refused_as f s
+-- Rest and resume look first whether there is such a line, then at its kind, then whether it rests.
+abbrev change_rest : Bool → ℕ → State → Outcome → Outcome
+change_rest resting number s done =
+    cond (nat_le 1 number && nat_le number (length s.tasks))
+    (let x : Task = slice_index_or s.tasks (number - 1) blank_task in
+    cond (is_regular x.line) (refused_as (RegularLine number) s)
+    (cond (same x.resting resting) (refused_as (RestAsItIs number) s) done))
+    (refused_as (NoSuchLine number) s)
+  where
+    same : Bool → Bool → Bool
+    same true b = b
+    same false true = false
+    same false false = true
 
 abbrev pub rest_of : ℕ → State → Outcome
-rest_of number s = by_change (line_to_change true number s.tasks) s (state_of s.clock (on_line number rested s.tasks) (aside_of number s.last) s.tracks, Done)
+rest_of number s = change_rest true number s (state_of s.clock (on_line number rested s.tasks) (aside_of number s.last) s.tracks, Done)
 
 abbrev pub resume_of : ℕ → State → Outcome
-resume_of number s = by_change (line_to_change false number s.tasks) s (state_of s.clock (on_line number resumed s.tasks) s.last s.tracks, Done)
+resume_of number s = change_rest false number s (state_of s.clock (on_line number resumed s.tasks) s.last s.tracks, Done)
 
 abbrev pub next_of : (Job → Job → Bool) → State → Call → Outcome
 next_of ahead s Step = step_of ahead s

@@ -9,7 +9,7 @@
 --   release          the instant of a line's release k
 --   releases_in       how many releases of a line fall into some units
 --   Ran              a history that an executive made, and the state that it left
-use Rattle.std.specs.Prelude.{◌≡◌, ℕ, zero, suc, ◌+◌, ◌-◌, ◌*◌, Bool, true, false, cond, List, [], ◌∷◌, ◌++◌, length, take, drop, count_by, ◌==◌, nat_eq, slice_index}
+use Rattle.std.specs.Prelude.{◌≡◌, ℕ, zero, suc, ◌+◌, ◌-◌, ◌*◌, min, Bool, true, false, cond, List, [], ◌∷◌, ◌++◌, length, take, drop, count_by, ◌==◌, nat_eq, slice_index}
 use Rattle.model.specs.declared.job.Job.{Job}
 use Rattle.model.specs.declared.line.Line.{Line}
 use Rattle.runs.specs.declared.call.Call.{Call}
@@ -19,7 +19,7 @@ use Rattle.runs.specs.declared.call.Reply.TheVariants.{Done, Refused}
 use Rattle.runs.specs.declared.call.Reply.TheVariants.{Unit as UnitGiven}
 use Rattle.runs.specs.declared.call.StepReport.{StepReport}
 use Rattle.runs.specs.Tasks.{releases_at}
-use Rattle.runs.specs.Calls.{State, begun, next_of}
+use Rattle.runs.specs.Calls.{State, begun, next_of, last_clock}
 
 pub record Event : Type 0 where
   pub call : Call
@@ -40,6 +40,10 @@ unit_of (Refused f) = []
 abbrev pub units_of : History → List ℕ
 units_of [] = []
 units_of (e ∷ h) = unit_of e.reply ++ units_of h
+
+-- an instant above the last clock counts as the last clock
+abbrev pub start_of : ℕ → ℕ
+start_of start = min start last_clock
 
 -- `start` is the clock with which the run began
 abbrev pub clock_of : ℕ → History → ℕ

@@ -20,8 +20,8 @@ use Rattle.runs.specs.declared.call.StepReport.{StepReport}
 use Rattle.runs.specs.declared.task.Counts.{Counts}
 use Rattle.runs.specs.Tasks.{pending, blank_task}
 use Rattle.runs.specs.Jitter.{figures_of, track_figures, no_track}
-use Rattle.runs.specs.Calls.{State, clock_from}
-use Rattle.runs.specs.Histories.{History, event, units_of, clock_of, line_at, units_in, StepAt, EndAt, RestAt, rests_after, release, releases_in, Ran}
+use Rattle.runs.specs.Calls.{State}
+use Rattle.runs.specs.Histories.{History, event, units_of, clock_of, line_at, units_in, StepAt, EndAt, RestAt, rests_after, release, releases_in, Ran, start_of}
 use Rattle.runs.specs.Rehearsals.{rehearsal_of}
 use Rattle.runs.specs.Starts.{InRound, starts_of}
 
@@ -85,11 +85,11 @@ pub record Figured (ls : List Line) (start : ℕ) (h : History) (s : State) : Ty
 
 -- `m` is the hyperperiod of the plan's lines.
 pub record Promised (ahead : Job → Job → Bool) (ls : List Line) (m start : ℕ) (h : History) (s : State) : Type 0 where
-  pub regularly : Regularly ls (clock_from start) h
-  pub truly : Truly ls (clock_from start) h
-  pub in_time : rehearsal_of ahead m ls ≡ Ok tt → InTime ls (clock_from start) h
-  pub tallied : Tallied ls (clock_from start) h s
-  pub figured : Figured ls (clock_from start) h s
+  pub regularly : Regularly ls (start_of start) h
+  pub truly : Truly ls (start_of start) h
+  pub in_time : rehearsal_of ahead m ls ≡ Ok tt → InTime ls (start_of start) h
+  pub tallied : Tallied ls (start_of start) h s
+  pub figured : Figured ls (start_of start) h s
 
 -- For every lawful ranking, plan, start and list of calls.
 abbrev pub Promise : (Job → Job → Bool) → Type 0

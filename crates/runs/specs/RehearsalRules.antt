@@ -1,5 +1,5 @@
 -- The rehearsal as rules on the run of a plan's lines, with no order of tests in them.
---   tasks_at          all lines before the step at an instant, in the run from instant 0
+--   state_at          all lines before the step at an instant, in the run from instant 0
 --   NoneStruckBelow  no job is struck out before an instant
 --   LowestStruck     a line has a job that is struck out, and no lower line has one
 --   units_left        the units left on every line
@@ -16,14 +16,14 @@ use Rattle.model.specs.declared.line.Line.{Line}
 use Rattle.runs.specs.declared.task.Task.{Task}
 use Rattle.runs.specs.Tasks.{due, new_tasks}
 use Rattle.runs.specs.Steps.{stepped}
-use Rattle.runs.specs.Rehearsals.{load_of, largest_offset}
+use Rattle.runs.specs.Rehearsals.{load_of, last_offset}
 
-abbrev pub tasks_at : (Job → Job → Bool) → List Line → ℕ → List Task
-tasks_at ahead ls zero = new_tasks 1 ls
-tasks_at ahead ls (suc t) = stepped ahead t (tasks_at ahead ls t)
+abbrev pub state_at : (Job → Job → Bool) → List Line → ℕ → List Task
+state_at ahead ls zero = new_tasks 1 ls
+state_at ahead ls (suc t) = stepped ahead t (state_at ahead ls t)
 
 abbrev pub NoneStruckBelow : (Job → Job → Bool) → List Line → ℕ → Type 0
-NoneStruckBelow ahead ls n = (t : ℕ) → t < n → All (λ x. due t x ≡ false) (tasks_at ahead ls t)
+NoneStruckBelow ahead ls n = (t : ℕ) → t < n → All (λ x. due t x ≡ false) (state_at ahead ls t)
 
 -- line i + 1 stands at place i
 abbrev pub LowestStruck : ℕ → List Task → ℕ → Type 0
@@ -35,20 +35,20 @@ units_left xs = map (λ x. x.left) xs
 
 -- the marks are one and two hyperperiods h after the largest offset
 abbrev pub first_mark : ℕ → List Line → ℕ
-first_mark h ls = largest_offset ls + h
+first_mark h ls = last_offset ls + h
 
 abbrev pub second_mark : ℕ → List Line → ℕ
-second_mark h ls = largest_offset ls + h + h
+second_mark h ls = last_offset ls + h + h
 
 abbrev pub SameAtMarks : (Job → Job → Bool) → ℕ → List Line → Type 0
-SameAtMarks ahead h ls = units_left (tasks_at ahead ls (first_mark h ls)) ≡ units_left (tasks_at ahead ls (second_mark h ls))
+SameAtMarks ahead h ls = units_left (state_at ahead ls (first_mark h ls)) ≡ units_left (state_at ahead ls (second_mark h ls))
 
 -- It passes if the load is at most h, no job is struck out before the second mark, and the units
 -- left are the same at both marks. A miss names the instant before which nothing was struck out.
 pub data Rehearsed (ahead : Job → Job → Bool) (h : ℕ) (ls : List Line) : Result (Unit {0}) Fault → Type 0 where
   passed : load_of h ls ≤ h → NoneStruckBelow ahead ls (second_mark h ls) → SameAtMarks ahead h ls → Rehearsed ahead h ls (Ok tt)
   overload : h < load_of h ls → Rehearsed ahead h ls (Err Overload)
-  missed : (t line : ℕ) → load_of h ls ≤ h → t < second_mark h ls → NoneStruckBelow ahead ls t → LowestStruck t (tasks_at ahead ls t) line → Rehearsed ahead h ls (Err (Missed t line))
+  missed : (t line : ℕ) → load_of h ls ≤ h → t < second_mark h ls → NoneStruckBelow ahead ls t → LowestStruck t (state_at ahead ls t) line → Rehearsed ahead h ls (Err (Missed t line))
   unsettled : load_of h ls ≤ h → NoneStruckBelow ahead ls (second_mark h ls) → (SameAtMarks ahead h ls → ⊥) → Rehearsed ahead h ls (Err Unsettled)
 
 abbrev pub OnlyRehearsed : (Job → Job → Bool) → ℕ → List Line → Result (Unit {0}) Fault → Type 0

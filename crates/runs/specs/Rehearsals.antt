@@ -1,6 +1,6 @@
 -- The rehearsal: a plan's lines run from instant 0, each job at its full length, with no other call.
 --   share_of, load_of   units that a line, and all lines, take up in one hyperperiod
---   largest_offset        the largest offset, 0 without lines
+--   last_offset        the largest offset, 0 without lines
 --   miss_at            a step that strikes a job out misses the lowest such line
 --   run_units          some units from an instant on, up to the first job that is struck out
 --   same_left          the same units left on every line of two lists
@@ -23,9 +23,9 @@ abbrev pub load_of : ℕ → List Line → ℕ
 load_of h [] = 0
 load_of h (l ∷ ls) = share_of h l + load_of h ls
 
-abbrev pub largest_offset : List Line → ℕ
-largest_offset [] = 0
-largest_offset (l ∷ ls) = max l.offset (largest_offset ls)
+abbrev pub last_offset : List Line → ℕ
+last_offset [] = 0
+last_offset (l ∷ ls) = max l.offset (last_offset ls)
 
 abbrev pub miss_at : ℕ → List Task → Result (Unit {0}) Fault
 miss_at t xs = cond (lowest_due t xs == 0) (Ok tt) (Err (Missed t (lowest_due t xs)))
@@ -53,4 +53,4 @@ between_marks ahead mark h xs =
 
 -- The marks are one and two hyperperiods h after the largest offset.
 abbrev pub rehearsal_of : (Job → Job → Bool) → ℕ → List Line → Result (Unit {0}) Fault
-rehearsal_of ahead h ls = cond (nat_lt h (load_of h ls)) (Err Overload) (between_marks ahead (largest_offset ls + h) h (new_tasks 1 ls))
+rehearsal_of ahead h ls = cond (nat_lt h (load_of h ls)) (Err Overload) (between_marks ahead (last_offset ls + h) h (new_tasks 1 ls))

@@ -20,7 +20,7 @@ use Rattle.model.specs.declared.line.Line.{Line}
 use Rattle.model.specs.declared.policy.Policy.{Policy}
 use Rattle.model.specs.declared.policy.Policy.TheVariants.{Dm, Ed}
 use Rattle.model.specs.Ranges.{regular_kind, regulars}
-use Rattle.model.specs.Results.{and_then, or_fault}
+pub use Rattle.model.specs.Results.{and_then, or_fault}
 use Rattle.model.specs.TaskSets.{TaskSet, task_set}
 use Rattle.sheet.specs.Cutting.{lines_of, fields_of}
 
@@ -95,7 +95,12 @@ abbrev pub read_fields : ℕ → Bool → List (List ℕ) → Result Line Fault
 read_fields line full fields =
     and_then (read_kind line full fields) (λ kind.
     and_then (read_name line (drop 1 fields)) (λ _.
-    read_figures line kind fields))
+    and_then (read_number line 3 0 (drop 2 fields)) (λ r.
+    and_then (read_number line 4 1 (drop 3 fields)) (λ c.
+    and_then (read_number line 5 c (drop 4 fields)) (λ d.
+    and_then (read_number line 6 d (drop 5 fields)) (λ t.
+    and_then (read_end line (drop 6 fields)) (λ _.
+    Ok (record { kind = kind; offset = r; length = c; deadline = d; period = t }))))))))
 
 -- A task line is cut into its fields first.
 abbrev pub read_line : ℕ → Bool → List ℕ → Result Line Fault

@@ -8,7 +8,7 @@ ghost use Rattle.runs.specs.declared.call.Call.TheVariants.{Step, EarlyEnd, Rest
 
 use super::Executive;
 use crate::between::{
-    JobEnd, end_early, end_rest, last_after, line_to_change, place_in, put_to_rest,
+    Event, end_early, take_up, last_after, line_to_change, place_in, set_aside,
 };
 use crate::slot::{NO_SLOT, set_up};
 use crate::step::step;
@@ -129,7 +129,7 @@ impl<R: Ranking> Executive<R> {
         ensures { Took (ahead self.old.ranking) self.old self.new EarlyEnd (done_or result) }
     {
         let n = self.line_count();
-        match last_after(&mut self.last, JobEnd::EarlyEnd) {
+        match last_after(&mut self.last, Event::EarlyEnd) {
             Some(line) => {
                 end_early(&mut self.slots[0..n], line);
                 Ok(())
@@ -144,8 +144,8 @@ impl<R: Ranking> Executive<R> {
     {
         let n = self.line_count();
         let line = line_to_change(&self.slots[0..n], number, true)?;
-        put_to_rest(&mut self.slots[0..n], line);
-        last_after(&mut self.last, JobEnd::SetAside { line });
+        set_aside(&mut self.slots[0..n], line);
+        last_after(&mut self.last, Event::SetAside { line });
         Ok(())
     }
 
@@ -154,7 +154,7 @@ impl<R: Ranking> Executive<R> {
     {
         let n = self.line_count();
         let line = line_to_change(&self.slots[0..n], number, false)?;
-        end_rest(&mut self.slots[0..n], line);
+        take_up(&mut self.slots[0..n], line);
         Ok(())
     }
 

@@ -1,8 +1,8 @@
 //! Which line comes first: by its next release, and by its largest deviation.
 
 ghost use Rattle.std.specs.Prelude.{◌≡◌, ℕ};
-ghost use Rattle.runs.specs.Calls.{clock_from};
-ghost use Rattle.runs.specs.Histories.{History, Ran};
+
+ghost use Rattle.runs.specs.Histories.{History, Ran, start_of};
 ghost use Rattle.executive.specs.Questions.{coming_of, IsComingOf, ComingOfRun, worst_of, IsWorstOf, WorstOfRun};
 ghost use Rattle.executive.specs.Views.{view_of};
 
@@ -15,7 +15,7 @@ impl<R: Ranking> Executive<R> {
     pub fn coming(&self) -> Option<Release>
         ensures value { result ≡ coming_of (view_of self.now) }
         ensures first { IsComingOf (view_of self.now) result }
-        ensures run { (start : ℕ) (h : History) → Ran (ahead self.now.ranking) self.now.plan.lines.items start h (view_of self.now) → ComingOfRun self.now.plan.lines.items (clock_from start) h result }
+        ensures run { (start : ℕ) (h : History) → Ran (ahead self.now.ranking) self.now.plan.lines.items start h (view_of self.now) → ComingOfRun self.now.plan.lines.items (start_of start) h result }
     {
         let n = self.line_count();
         coming_release(&self.slots[0..n])
@@ -25,7 +25,7 @@ impl<R: Ranking> Executive<R> {
     pub fn worst(&self) -> Option<Deviating>
         ensures value { result ≡ worst_of (view_of self.now) }
         ensures first { IsWorstOf (view_of self.now) result }
-        ensures run { (start : ℕ) (h : History) → Ran (ahead self.now.ranking) self.now.plan.lines.items start h (view_of self.now) → WorstOfRun self.now.plan.lines.items (clock_from start) h result }
+        ensures run { (start : ℕ) (h : History) → Ran (ahead self.now.ranking) self.now.plan.lines.items start h (view_of self.now) → WorstOfRun self.now.plan.lines.items (start_of start) h result }
     {
         let n = self.line_count();
         worst_line(&self.tracks[0..n])

@@ -9,7 +9,7 @@ ghost use Rattle.planning.specs.Plans.{plan_of, IsPlan, PlacedFirst};
 use super::Plan;
 use crate::deadlines::{set_deadlines, tight_line};
 use crate::hyperperiod::hyperperiod;
-use crate::offsets::{crowded_pair, place};
+use crate::offsets::{short_pair, place};
 use model::fault::Fault;
 use model::kind::Kind;
 use model::line::Line;
@@ -32,7 +32,7 @@ fn plan_steps(lines: &mut [Line], policy: Policy) -> Result<(), Fault>
     ensures { MatchResult result (λ _. plan_of (task_set policy lines.old) ≡ Ok (task_set policy lines.new)) (λ e. plan_of (task_set policy lines.old) ≡ Err e) }
 {
     hyperperiod(lines)?;
-    if let Some((first, second)) = crowded_pair(lines) {
+    if let Some((first, second)) = short_pair(lines) {
         return Err(Fault::PairTooLong { first, second });
     }
     if !place(lines, 0) {

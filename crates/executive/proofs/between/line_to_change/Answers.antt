@@ -1,7 +1,8 @@
 use Rattle.std.proofs.Common.{length, get_or, Err, sym, ap, ◌∙◌}
 use Rattle.std.proofs.lemmas.Result.{err_from_is_err_and}
 use Rattle.std.proofs.lemmas.Bool.{cond-true, cond-false}
-use Rattle.runs.specs.Calls.{change_of, is_line}
+use Rattle.executive.specs.Changes.{change_of}
+use Rattle.runs.specs.Calls.{is_line}
 use Rattle.executive.specs.Slots.{tasks_of}
 use Rattle.runs.specs.Tasks.{blank_task}
 use Rattle.executive.proofs.Places.{task_at_lem, length_tasks}

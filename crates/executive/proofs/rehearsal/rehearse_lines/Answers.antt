@@ -3,7 +3,7 @@ use Rattle.std.proofs.lemmas.Bool.{cond-true, cond-false, lt-ltb, le-ltb}
 use Rattle.model.specs.declared.fault.Fault.{Fault}
 use Rattle.model.specs.declared.fault.Fault.TheVariants.{Overload}
 use Rattle.executive.specs.Slots.{tasks_of}
-use Rattle.runs.specs.Rehearsals.{load_of, largest_offset, between_marks, rehearsal_of}
+use Rattle.runs.specs.Rehearsals.{load_of, last_offset, between_marks, rehearsal_of}
 use Rattle.runs.proofs.NewTasks.{length_new_tasks}
 use Rattle.executive.proofs.Places.{length_tasks}
 use Rattle.runs.proofs.Rules.{only_rehearsed}
@@ -34,6 +34,6 @@ returns g c =
     let value : c.between-marks.result ≡ rehearsal_of ah h ls =
     c.between-marks.ensures
     ∙ ap (λ m. between_marks ah (m + h) h (tasks_of c.set-up.new.slots)) c.largest-offset.ensures
-    ∙ ap (λ xs. between_marks ah (largest_offset ls + h) h xs) c.set-up.ensures.tasks
+    ∙ ap (λ xs. between_marks ah (last_offset ls + h) h xs) c.set-up.ensures.tasks
     ∙ sym (cond-false (ltb h (load_of h ls)) _ _ light) in
     record { value = value; rules = only_rehearsed ah ls h c.between-marks.result value }

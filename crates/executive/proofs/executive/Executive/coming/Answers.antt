@@ -2,8 +2,8 @@ use Rattle.std.proofs.Common.{◌≡◌, ℕ, ◌+◌, ◌<◌, length, get_or, 
 use Rattle.model.specs.Ranges.{blank}
 use Rattle.planning.specs.Hyperperiods.{hyperperiod}
 use Rattle.entries.specs.Entries.{first_entry}
-use Rattle.runs.specs.Calls.{clock_from}
-use Rattle.runs.specs.Histories.{clock_of, rests_after}
+
+use Rattle.runs.specs.Histories.{clock_of, rests_after, start_of}
 use Rattle.runs.proofs.Basics.{basics}
 use Rattle.runs.specs.Tasks.{blank_task}
 use Rattle.executive.specs.Questions.{coming_of, IsComingOf, ComingOfRun, releases_ahead, sooner}
@@ -33,7 +33,7 @@ returns g c =
       first = subst (IsComingOf (view_of x)) (sym value) first;
       run = λ start h ran.
           let b = basics (g.R.Ranking.ahead x.ranking) (g.met.R.Ranking.lawful x.ranking) ls (hyperperiod ls) start (sound_plan x.plan) h (view_of x) ran in
-          subst (ComingOfRun ls (clock_from start) h) (sym value)
-          (coming_same (length (tasks_of xs)) (length ls) x.clock (clock_of (clock_from start) h) (λ i. (get_or (tasks_of xs) i blank_task).line) (λ i. get_or ls i blank) (λ i. (get_or (tasks_of xs) i blank_task).resting) (λ i. rests_after h (i + 1)) b.size b.clock
+          subst (ComingOfRun ls (start_of start) h) (sym value)
+          (coming_same (length (tasks_of xs)) (length ls) x.clock (clock_of (start_of start) h) (λ i. (get_or (tasks_of xs) i blank_task).line) (λ i. get_or ls i blank) (λ i. (get_or (tasks_of xs) i blank_task).resting) (λ i. rests_after h (i + 1)) b.size b.clock
           (λ i p. (b.each i p).line) (λ i p. (b.each i p).resting) (coming_of (view_of x)) first);
     }

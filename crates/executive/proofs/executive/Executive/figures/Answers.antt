@@ -4,10 +4,11 @@ use Rattle.std.proofs.lemmas.Result.{err_from_is_err_and}
 use Rattle.std.proofs.lemmas.Bool.{and_from, and_parts, both_ways, cond-true, cond-false, leb-true, le-leb}
 use Rattle.model.specs.Ranges.{blank}
 use Rattle.planning.specs.Hyperperiods.{hyperperiod}
+use Rattle.runs.specs.Histories.{start_of}
 use Rattle.runs.specs.Jitter.{figures_of, no_track, track_figures}
 use Rattle.runs.specs.Starts.{starts_of}
 use Rattle.runs.proofs.Promised.{promise}
-use Rattle.runs.specs.Calls.{is_line, clock_from}
+use Rattle.runs.specs.Calls.{is_line}
 use Rattle.executive.specs.Questions.{OfTheRun}
 use Rattle.executive.specs.Slots.{tasks_of}
 use Rattle.executive.specs.Views.{view_of}
@@ -72,5 +73,5 @@ returns g c =
           ∙ sym (cond-true _ _ _ (ap (λ m. is_line m number) count ∙ one.0));
       run = λ start h ran.
           let back : number - 1 + 1 ≡ number = omega arith in
-          (some, omega arith, told ∙ (promise ah (g.met.R.Ranking.lawful x.ranking) ls (hyperperiod ls) start h (view_of x) (sound_plan x.plan) ran).figured.figures (number - 1) in' ∙ ap (λ k. figures_of l (starts_of l k (clock_from start) h)) back);
+          (some, omega arith, told ∙ (promise ah (g.met.R.Ranking.lawful x.ranking) ls (hyperperiod ls) start h (view_of x) (sound_plan x.plan) ran).figured.figures (number - 1) in' ∙ ap (λ k. figures_of l (starts_of l k (start_of start) h)) back);
     }

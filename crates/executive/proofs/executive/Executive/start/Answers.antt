@@ -1,5 +1,6 @@
 use Rattle.std.proofs.Common.{[], take, replicate, vec_items, vec_len, refl, ap, ◌∙◌}
-use Rattle.runs.specs.Calls.{state_of, clock_from}
+use Rattle.runs.specs.Histories.{start_of}
+use Rattle.runs.specs.Calls.{state_of}
 use Rattle.runs.specs.Jitter.{no_track}
 use Rattle.runs.specs.Tasks.{new_tasks}
 use Rattle.runs.specs.declared.call.LastUnit.TheVariants.{Idle}
@@ -20,7 +21,7 @@ returns g c =
     record {
       state = ap (λ w. state_of c.clock-from-clock.result w Idle ks) (start_tasks ls (vec_len lines) c.set-up.new.slots _ lines.ok.0 c.args.plan.few is)
           ∙ ap (λ t. state_of t (new_tasks 1 ls) Idle ks) c.clock-from-clock.ensures.value
-          ∙ ap (state_of (clock_from c.args.start) (new_tasks 1 ls) Idle) (start_tracks ls (vec_len lines) c.set-up.new.slots [] lines.ok.0 c.args.plan.few is);
+          ∙ ap (state_of (start_of c.args.start) (new_tasks 1 ls) Idle) (start_tracks ls (vec_len lines) c.set-up.new.slots [] lines.ok.0 c.args.plan.few is);
       plan = refl;
       ranking = refl;
     }

@@ -1,7 +1,8 @@
 use Rattle.std.proofs.Common.{◌≡◌, length, get_or, vec_items, sym, ap, ◌∙◌, subst}
 use Rattle.planning.specs.Hyperperiods.{hyperperiod}
 use Rattle.entries.specs.Entries.{first_entry}
-use Rattle.runs.specs.Calls.{clock_from}
+
+use Rattle.runs.specs.Histories.{start_of}
 use Rattle.runs.specs.Jitter.{no_track}
 use Rattle.runs.proofs.Promised.{promise}
 use Rattle.executive.specs.Questions.{deviating, worse, worst_of, IsWorstOf, WorstOfRun}
@@ -21,7 +22,7 @@ returns g c =
       first = subst (IsWorstOf (view_of x)) (sym value) (worst_is_first (view_of x));
       run = λ start h ran.
           let shown = (promise (g.R.Ranking.ahead x.ranking) (g.met.R.Ranking.lawful x.ranking) ls (hyperperiod ls) start h (view_of x) (sound_plan x.plan) ran).figured.figures in
-          subst (WorstOfRun ls (clock_from start) h) (sym value)
+          subst (WorstOfRun ls (start_of start) h) (sym value)
           (worst_same (length (tracks_of x)) (length ls) (λ i. (get_or (tracks_of x) i no_track).number) (λ i. (get_or (tracks_of x) i no_track).largest) _ _ (standing x).tracked.0
           (λ i p. ap (λ f. f.number) (shown i p)) (λ i p. ap (λ f. f.largest) (shown i p)) (worst_of (view_of x)) (worst_is_first (view_of x)));
     }

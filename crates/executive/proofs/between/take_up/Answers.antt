@@ -4,7 +4,7 @@ use Rattle.executive.specs.Slots.{blank_slot, tasks_of}
 use Rattle.runs.specs.Tasks.{resumed}
 use Rattle.executive.proofs.OneSlot.{set_on_line, kept_resumed, numbers}
 use Rattle.executive.proofs.Places.{set_kept}
-use Rattle.executive.proofs.between.end_rest.Goals as goal
+use Rattle.executive.proofs.between.take_up.Goals as goal
 
 pub returns : goal.returns
 returns c =

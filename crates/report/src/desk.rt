@@ -1,12 +1,12 @@
-//! A planner holds a place for a sheet and one for a plan; its call `print` reads a text, plans it,
-//! rehearses the plan and prints.
+//! The desk of the planning engineer: a place for the sheet and one for the plan, and the one call
+//! that reads, plans, rehearses and prints.
 
 ghost use Rattle.std.specs.Prelude.{◌≡◌, ◌≤◌, length, IfOk, MatchResult};
 ghost use Rattle.std.specs.Result.{result_err};
 ghost use Rattle.model.specs.TaskSets.{no_tasks, Filled};
 ghost use Rattle.model.specs.declared.fault.Fault.TheVariants.{NoMemory};
 ghost use Rattle.sheet.specs.Reading.{read_sheet};
-ghost use Rattle.report.specs.Planners.{plan_held, sheet_held};
+ghost use Rattle.report.specs.Desks.{plan_held, sheet_held};
 ghost use Rattle.report.specs.Pages.{written};
 ghost use Rattle.report.specs.Reports.{buffer_least, buffer_of, held_after, kept_or, planned_from, rehearsed, reply_of, report_of};
 
@@ -22,17 +22,17 @@ use std::alloc::Global;
 const BUFFER_LEAST: usize = 1024;
 
 #[derive(Drop)]
-pub struct Planner {
+pub struct Desk {
     sheet: Sheet,
     plan: Plan,
 }
 
-impl Planner {
-    // Two new places. No later call of a planner asks for memory.
-    pub fn new(heap: Global) -> Result<Planner, Fault>
-        ensures { MatchResult result (λ p. (sheet_held p ≡ no_tasks) × (plan_held p ≡ no_tasks)) (λ e. e ≡ NoMemory) }
+impl Desk {
+    // Two new places. This is the one call that asks for memory.
+    pub fn new(heap: Global) -> Result<Desk, Fault>
+        ensures { MatchResult result (λ d. (sheet_held d ≡ no_tasks) × (plan_held d ≡ no_tasks)) (λ e. e ≡ NoMemory) }
     {
-        Ok(Planner {
+        Ok(Desk {
             sheet: Sheet::new(heap)?,
             plan: Plan::new(heap)?,
         })

@@ -2,7 +2,7 @@ use Rattle.std.proofs.Common.{vec_items, refl}
 use Rattle.std.proofs.lemmas.Result.{err_from_is_err_and}
 use Rattle.model.specs.TaskSets.{task_set}
 use Rattle.report.proofs.Places.{filled_kept, filled_ok, filled_err}
-use Rattle.report.proofs.planner.Planner.prepare.Goals as goal
+use Rattle.report.proofs.desk.Desk.prepare.Goals as goal
 
 pub returns-in-err-read : goal.returns-in-err-read
 returns-in-err-read c =

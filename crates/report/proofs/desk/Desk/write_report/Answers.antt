@@ -1,12 +1,12 @@
 use Rattle.std.proofs.Common.{◌≡◌, length, sym, ap, ◌∙◌, subst, arith}
 use Rattle.std.specs.List.{AllByRecursion as All}
-use Rattle.report.specs.Planners.{plan_held}
+use Rattle.report.specs.Desks.{plan_held}
 use Rattle.report.specs.Pages.{written}
 use Rattle.report.specs.Printed.{Narrow}
 use Rattle.report.proofs.Bounds.{ranged_narrow}
 use Rattle.report.proofs.Places.{filled_kept, filled_ok, filled_err}
 use Rattle.report.proofs.Told.{told_of_plan, told_of_fault}
-use Rattle.report.proofs.planner.Planner.write_report.Goals as goal
+use Rattle.report.proofs.desk.Desk.write_report.Goals as goal
 
 pub show-outcome-requires : goal.show-outcome-requires
 show-outcome-requires c =

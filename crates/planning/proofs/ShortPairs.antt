@@ -9,7 +9,7 @@ use Rattle.windows.specs.Euclid.{gcd_of}
 use Rattle.windows.proofs.Room.{too_long}
 use Rattle.planning.proofs.Options.{some_none, cond_none, cond_some, guard_some, guard_none, else_some}
 use Rattle.planning.proofs.ByPlace.{by_place}
-use Rattle.planning.specs.Offsets.{or_else, crowded_with, crowded_pair, FirstNeverApart}
+use Rattle.planning.specs.Offsets.{or_else, short_with, short_pair, FirstNeverApart}
 
 -- a line that does not fail is roomy, if it is regular
 passes : (b t : Bool) → (b && not t) ≡ false → b ≡ true → t ≡ true
@@ -17,10 +17,10 @@ passes true t e h = not-false t e
 passes false t e h = absurd (false≢true h)
 
 -- where none fails, every regular line of bs is roomy beside a
-none_beside : (a : Line) (i j : ℕ) (bs : List Line) → crowded_with a i j bs ≡ None → (n : ℕ) → n < length bs → is_regular (get_or bs n blank) ≡ true → roomy_lines a (get_or bs n blank) ≡ true
+none_beside : (a : Line) (i j : ℕ) (bs : List Line) → short_with a i j bs ≡ None → (n : ℕ) → n < length bs → is_regular (get_or bs n blank) ≡ true → roomy_lines a (get_or bs n blank) ≡ true
 none_beside a i j [] e n h r = absurd (omega arith)
-none_beside a i j (b ∷ bs) e zero h r = passes (is_regular b) (roomy_lines a b) (cond_none (is_regular b && not (roomy_lines a b)) (i, j) (crowded_with a i (j + 1) bs) e).0 r
-none_beside a i j (b ∷ bs) e (suc n) h r = none_beside a i (j + 1) bs (cond_none (is_regular b && not (roomy_lines a b)) (i, j) (crowded_with a i (j + 1) bs) e).1 n (omega arith) r
+none_beside a i j (b ∷ bs) e zero h r = passes (is_regular b) (roomy_lines a b) (cond_none (is_regular b && not (roomy_lines a b)) (i, j) (short_with a i (j + 1) bs) e).0 r
+none_beside a i j (b ∷ bs) e (suc n) h r = none_beside a i (j + 1) bs (cond_none (is_regular b && not (roomy_lines a b)) (i, j) (short_with a i (j + 1) bs) e).1 n (omega arith) r
 
 -- place k of bs, where lines are counted from j, holds the first line that is too long beside a
 record Beside (a : Line) (i j : ℕ) (bs : List Line) (pair : ℕ × ℕ) : Type 0 where
@@ -32,7 +32,7 @@ record Beside (a : Line) (i j : ℕ) (bs : List Line) (pair : ℕ × ℕ) : Type
   long : roomy_lines a (get_or bs k blank) ≡ false
   before : (n : ℕ) → n < k → is_regular (get_or bs n blank) ≡ true → roomy_lines a (get_or bs n blank) ≡ true
 
-beside : (a : Line) (i j : ℕ) (bs : List Line) (pair : ℕ × ℕ) → crowded_with a i j bs ≡ Some pair → Beside a i j bs pair
+beside : (a : Line) (i j : ℕ) (bs : List Line) (pair : ℕ × ℕ) → short_with a i j bs ≡ Some pair → Beside a i j bs pair
 beside a i j [] pair e = absurd (some_none pair (sym e))
 beside a i j (b ∷ bs) pair e =
     ⊎_elim
@@ -48,7 +48,7 @@ beside a i j (b ∷ bs) pair e =
       long = not-true (roomy_lines a b) both.1;
       before = λ n l. absurd (omega arith);
     })
-    (λ (h : ((is_regular b && not (roomy_lines a b)) ≡ false) × (crowded_with a i (j + 1) bs ≡ Some pair)).
+    (λ (h : ((is_regular b && not (roomy_lines a b)) ≡ false) × (short_with a i (j + 1) bs ≡ Some pair)).
     let w = beside a i (j + 1) bs pair h.1 in
     record {
       k = suc w.k;
@@ -62,7 +62,7 @@ beside a i j (b ∷ bs) pair e =
           (λ _. passes (is_regular b) (roomy_lines a b) h.0)
           (λ n l. w.before n (omega arith));
     })
-    (cond_some (is_regular b && not (roomy_lines a b)) (i, j) pair (crowded_with a i (j + 1) bs) e)
+    (cond_some (is_regular b && not (roomy_lines a b)) (i, j) pair (short_with a i (j + 1) bs) e)
 
 -- the regular lines at places x and y of ls are roomy
 abbrev Roomy : List Line → ℕ → ℕ → Type 0
@@ -82,12 +82,12 @@ record FirstCrowded (i : ℕ) (ls : List Line) (pair : ℕ × ℕ) : Type 0 wher
   lower : (x y : ℕ) → x < m → Roomy ls x y
   nearer : (y : ℕ) → y < k → Roomy ls m y
 
-first_crowded : (i : ℕ) (ls : List Line) (pair : ℕ × ℕ) → crowded_pair i ls ≡ Some pair → FirstCrowded i ls pair
+first_crowded : (i : ℕ) (ls : List Line) (pair : ℕ × ℕ) → short_pair i ls ≡ Some pair → FirstCrowded i ls pair
 first_crowded i [] pair e = absurd (some_none pair (sym e))
 first_crowded i (a ∷ bs) pair e =
     ⊎_elim
-    (λ (h : cond (is_regular a) (crowded_with a i (i + 1) bs) None ≡ Some pair).
-    let g = guard_some (is_regular a) (crowded_with a i (i + 1) bs) pair h in
+    (λ (h : cond (is_regular a) (short_with a i (i + 1) bs) None ≡ Some pair).
+    let g = guard_some (is_regular a) (short_with a i (i + 1) bs) pair h in
     let w = beside a i (i + 1) bs pair g.1 in
     record {
       m = 0;
@@ -102,7 +102,7 @@ first_crowded i (a ∷ bs) pair e =
       lower = λ x y l. absurd (omega arith);
       nearer = by_place (λ y. y < suc w.k → Roomy (a ∷ bs) 0 y) (λ _ l. absurd (omega arith)) (λ y l _ _ _ r. w.before y (omega arith) r);
     })
-    (λ (h : (cond (is_regular a) (crowded_with a i (i + 1) bs) None ≡ None) × (crowded_pair (i + 1) bs ≡ Some pair)).
+    (λ (h : (cond (is_regular a) (short_with a i (i + 1) bs) None ≡ None) × (short_pair (i + 1) bs ≡ Some pair)).
     let w = first_crowded (i + 1) bs pair h.1 in
     record {
       m = suc w.m;
@@ -117,15 +117,15 @@ first_crowded i (a ∷ bs) pair e =
       lower =
           by_place (λ x. (y : ℕ) → x < suc w.m → Roomy (a ∷ bs) x y)
           (by_place (λ y. 0 < suc w.m → Roomy (a ∷ bs) 0 y) (λ _ l. absurd (omega arith))
-          (λ y _ _ l ra ry. none_beside a i (i + 1) bs (guard_none (is_regular a) (crowded_with a i (i + 1) bs) h.0 ra) y (omega arith) ry))
+          (λ y _ _ l ra ry. none_beside a i (i + 1) bs (guard_none (is_regular a) (short_with a i (i + 1) bs) h.0 ra) y (omega arith) ry))
           (λ x. by_place (λ y. suc x < suc w.m → Roomy (a ∷ bs) (suc x) y) (λ _ l. absurd (omega arith)) (λ y l o n. w.lower x y (omega arith) (omega arith) (omega arith)));
       nearer =
           by_place (λ y. y < suc w.k → Roomy (a ∷ bs) (suc w.m) y) (λ _ l. absurd (omega arith))
           (λ y l o n. w.nearer y (omega arith) (omega arith) (omega arith));
     })
-    (else_some (cond (is_regular a) (crowded_with a i (i + 1) bs) None) (crowded_pair (i + 1) bs) pair e)
+    (else_some (cond (is_regular a) (short_with a i (i + 1) bs) None) (short_pair (i + 1) bs) pair e)
 
-pub never_apart : (ls : List Line) (pair : ℕ × ℕ) → crowded_pair 1 ls ≡ Some pair → FirstNeverApart ls pair
+pub never_apart : (ls : List Line) (pair : ℕ × ℕ) → short_pair 1 ls ≡ Some pair → FirstNeverApart ls pair
 never_apart ls pair e =
     let w = first_crowded 1 ls pair e in
     let first : w.m ≡ pair.0 - 1 = omega (arith, w.first) in
@@ -146,10 +146,10 @@ never_apart ls pair e =
     }
 
 -- one more line, of the lower lines and of the higher
-pub lower_more : (ls : List Line) (i : ℕ) → i < length ls → (b : Bool) → b ≡ is_regular (get_or ls i blank) → or_else (cond b (crowded_with (get_or ls i blank) (i + 1) (i + 1 + 1) (drop (i + 1) ls)) None) (crowded_pair (i + 1 + 1) (drop (i + 1) ls)) ≡ crowded_pair (i + 1) (drop i ls)
+pub lower_more : (ls : List Line) (i : ℕ) → i < length ls → (b : Bool) → b ≡ is_regular (get_or ls i blank) → or_else (cond b (short_with (get_or ls i blank) (i + 1) (i + 1 + 1) (drop (i + 1) ls)) None) (short_pair (i + 1 + 1) (drop (i + 1) ls)) ≡ short_pair (i + 1) (drop i ls)
 lower_more ls i inside b e =
-    ap (λ t. or_else (cond t (crowded_with (get_or ls i blank) (i + 1) (i + 1 + 1) (drop (i + 1) ls)) None) (crowded_pair (i + 1 + 1) (drop (i + 1) ls))) e
-    ∙ sym (at_drop_more (crowded_pair (i + 1)) ls i blank inside)
+    ap (λ t. or_else (cond t (short_with (get_or ls i blank) (i + 1) (i + 1 + 1) (drop (i + 1) ls)) None) (short_pair (i + 1 + 1) (drop (i + 1) ls))) e
+    ∙ sym (at_drop_more (short_pair (i + 1)) ls i blank inside)
 
-pub higher_more : (a : Line) (ls : List Line) (i j : ℕ) → j < length ls → (b : Bool) → b ≡ (is_regular (get_or ls j blank) && not (roomy_lines a (get_or ls j blank))) → cond b (Some (i, j + 1)) (crowded_with a i (j + 1 + 1) (drop (j + 1) ls)) ≡ crowded_with a i (j + 1) (drop j ls)
-higher_more a ls i j inside b e = ap (λ t. cond t (Some (i, j + 1)) (crowded_with a i (j + 1 + 1) (drop (j + 1) ls))) e ∙ sym (at_drop_more (crowded_with a i (j + 1)) ls j blank inside)
+pub higher_more : (a : Line) (ls : List Line) (i j : ℕ) → j < length ls → (b : Bool) → b ≡ (is_regular (get_or ls j blank) && not (roomy_lines a (get_or ls j blank))) → cond b (Some (i, j + 1)) (short_with a i (j + 1 + 1) (drop (j + 1) ls)) ≡ short_with a i (j + 1) (drop j ls)
+higher_more a ls i j inside b e = ap (λ t. cond t (Some (i, j + 1)) (short_with a i (j + 1 + 1) (drop (j + 1) ls))) e ∙ sym (at_drop_more (short_with a i (j + 1)) ls j blank inside)

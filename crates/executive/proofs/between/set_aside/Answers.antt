@@ -4,7 +4,7 @@ use Rattle.executive.specs.Slots.{blank_slot, tasks_of}
 use Rattle.runs.specs.Tasks.{rested}
 use Rattle.executive.proofs.OneSlot.{set_on_line, kept_rested, numbers, rested_number}
 use Rattle.executive.proofs.Places.{set_kept}
-use Rattle.executive.proofs.between.put_to_rest.Goals as goal
+use Rattle.executive.proofs.between.set_aside.Goals as goal
 
 pub returns : goal.returns
 returns c =
