@@ -1,5 +1,7 @@
 //! Runs an executive from a script on standard input.
 
+#![tactic(auto)]
+
 use script::bench;
 use std::io::Read;
 

@@ -2,6 +2,8 @@
 //! sequence of records, each the length of a script in decimal, the byte 10, and the script. For each
 //! record a line `== K` and the answers are printed.
 
+#![tactic(auto)]
+
 use script::{bench, next_record};
 use std::io::Read;
 

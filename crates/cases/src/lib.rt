@@ -1,6 +1,8 @@
 //! The worked cases of the rule book, as theorems about the definitions that all contracts cite.
 //! Nothing here runs.
 
+#![tactic(auto)]
+
 ghost use Rattle.cases.specs.Cases.{Cases};
 ghost use Rattle.cases.specs.Edges.{Edges};
 

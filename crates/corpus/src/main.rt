@@ -2,16 +2,13 @@
 //! is a sequence of records, each the length of a text in decimal, the byte 10, and the text. For each
 //! record a line `== K` and the answer are printed.
 
+#![tactic(auto)]
+
 use report::desk::Desk;
 use script::next_record;
 use std::io::{Read, Write};
 
-fn answer_one(
-    rt: &HostRuntime,
-    desk: &mut Desk,
-    k: usize,
-    text: &[u8],
-) -> anyhow::Result<()> {
+fn answer_one(rt: &HostRuntime, desk: &mut Desk, k: usize, text: &[u8]) -> anyhow::Result<()> {
     let mut out = [0; 1024];
     let written = desk.print(text, &mut out)?;
     println!(rt; "== {k}")?;

@@ -1,5 +1,7 @@
 //! The first entry of a list, in an order that the entries bring along.
 
+#![tactic(auto)]
+
 ghost use Rattle.std.specs.Prelude.{◌≡◌, ◌<◌, Bool, length, MatchOption, slice_index_or};
 ghost use Rattle.std.specs.List.{IsFirstBest};
 ghost use Rattle.std.specs.Cmp.{IsStrictWeakOrder};

@@ -1,5 +1,7 @@
 //! From a plan to a run: the step of the processor, the calls between steps, and the rehearsal.
 
+#![tactic(auto)]
+
 mod between;
 pub mod executive;
 pub mod questions;

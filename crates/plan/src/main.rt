@@ -1,5 +1,7 @@
 //! Plans a task sheet: reads it from standard input, makes one call, and prints what the call wrote.
 
+#![tactic(auto)]
+
 ghost use Rattle.std.specs.Prelude.{◌≤◌, length, IfOk};
 
 use report::desk::Desk;

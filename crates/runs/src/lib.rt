@@ -1,6 +1,8 @@
 //! What a run is: the lines under way, the calls and their replies, and the laws over whole runs.
 //! Nothing here runs; the executive is tied to these definitions call by call.
 
+#![tactic(auto)]
+
 ghost use Rattle.runs.specs.Promise.{Promise};
 
 use model::ranking::Ranking;

@@ -1,6 +1,8 @@
 //! Runs an executive from a script: a sheet, a line `start T`, then one command a line, each answered by
 //! a printed line. Every command is made of the calls that the firmware makes.
 
+#![tactic(auto)]
+
 mod command;
 mod text;
 

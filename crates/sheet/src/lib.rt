@@ -1,6 +1,8 @@
 //! Text to sheet: a task sheet is read line by line and field by field, and the first fault in the
 //! order of the text is what reading replies.
 
+#![tactic(auto)]
+
 mod cutting;
 pub mod field;
 pub mod reader;

@@ -7,9 +7,7 @@ ghost use Rattle.executive.specs.Views.{view_of, unit_or, done_or, Took};
 ghost use Rattle.runs.specs.declared.call.Call.TheVariants.{Step, EarlyEnd, Rest, Resume};
 
 use super::Executive;
-use crate::between::{
-    Event, end_early, take_up, last_after, line_to_change, place_in, set_aside,
-};
+use crate::between::{Event, end_early, last_after, line_to_change, place_in, set_aside, take_up};
 use crate::slot::{NO_SLOT, set_up};
 use crate::step::step;
 use crate::task::is_pending;

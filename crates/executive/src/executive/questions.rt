@@ -1,7 +1,6 @@
 //! Which line comes first: by its next release, and by its largest deviation.
 
 ghost use Rattle.std.specs.Prelude.{◌≡◌, ℕ};
-
 ghost use Rattle.runs.specs.Histories.{History, Ran, start_of};
 ghost use Rattle.executive.specs.Questions.{coming_of, IsComingOf, ComingOfRun, worst_of, IsWorstOf, WorstOfRun};
 ghost use Rattle.executive.specs.Views.{view_of};

@@ -9,7 +9,7 @@ ghost use Rattle.planning.specs.Plans.{plan_of, IsPlan, PlacedFirst};
 use super::Plan;
 use crate::deadlines::{set_deadlines, tight_line};
 use crate::hyperperiod::hyperperiod;
-use crate::offsets::{short_pair, place};
+use crate::offsets::{place, short_pair};
 use model::fault::Fault;
 use model::kind::Kind;
 use model::line::Line;

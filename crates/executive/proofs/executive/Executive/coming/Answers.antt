@@ -2,7 +2,6 @@ use Rattle.std.proofs.Common.{◌≡◌, ℕ, ◌+◌, ◌<◌, length, get_or, 
 use Rattle.model.specs.Ranges.{blank}
 use Rattle.planning.specs.Hyperperiods.{hyperperiod}
 use Rattle.entries.specs.Entries.{first_entry}
-
 use Rattle.runs.specs.Histories.{clock_of, rests_after, start_of}
 use Rattle.runs.proofs.Basics.{basics}
 use Rattle.runs.specs.Tasks.{blank_task}

@@ -1,7 +1,6 @@
 use Rattle.std.proofs.Common.{◌≡◌, length, get_or, vec_items, sym, ap, ◌∙◌, subst}
 use Rattle.planning.specs.Hyperperiods.{hyperperiod}
 use Rattle.entries.specs.Entries.{first_entry}
-
 use Rattle.runs.specs.Histories.{start_of}
 use Rattle.runs.specs.Jitter.{no_track}
 use Rattle.runs.proofs.Promised.{promise}
