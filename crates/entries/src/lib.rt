@@ -22,16 +22,16 @@ pub trait Entry {
 // The entry at place i goes before that at place `best`.
 fn overtakes<T: Entry>(entries: &[T], i: usize, best: usize) -> bool
     requires { (i < length entries.now) × (best < length entries.now) }
-    ensures { (d : T) → result ≡ before (slice_index_or entries.now i d) (slice_index_or entries.now best d) }
+    ensures { (d : T) → result ≡ T.before (slice_index_or entries.now i d) (slice_index_or entries.now best d) }
 {
     entries[i].is_before(&entries[best])
 }
 
 // The place of the first entry; of equal ones the lowest place.
 pub fn first<T: Entry>(entries: &[T]) -> Option<usize>
-    ensures first { MatchOption result (length entries.now ≡ 0) (λ i. IsFirstBest before entries.now (length entries.now) i) }
-    ensures entry { EntryAt entries.now result (first_entry before entries.now) }
-    ensures only { OnlyFirst before entries.now result }
+    ensures first { MatchOption result (length entries.now ≡ 0) (λ i. IsFirstBest T.before entries.now (length entries.now) i) }
+    ensures entry { EntryAt entries.now result (first_entry T.before entries.now) }
+    ensures only { OnlyFirst T.before entries.now result }
 {
     if entries.is_empty() {
         return None;
@@ -47,7 +47,7 @@ pub fn first<T: Entry>(entries: &[T]) -> Option<usize>
 
 // The first entry itself.
 pub fn first_entry<T: Entry + Copy>(entries: &[T]) -> Option<T>
-    ensures { result ≡ first_entry before entries.now }
+    ensures { result ≡ first_entry T.before entries.now }
 {
     let i = first(entries)?;
     Some(entries[i])

@@ -1,8 +1,8 @@
--- The laws of `smaller`, and of `regular_first` over any order.
-use Rattle.std.specs.Prelude.{◌≡◌, ℕ, Bool, nat_lt}
+-- The laws of `smaller`, of `regular_first` over any order, and of the two rankings.
+use Rattle.std.specs.Prelude.{◌≡◌, ℕ, ◌+◌, Bool, nat_lt}
 use Rattle.std.proofs.Common.{arith, rules}
 use Rattle.std.proofs.lemmas.Bool.Decides.{nat_tests}
-use Rattle.model.specs.Rankings.{later, Ordered, Lawful, regular_first, smaller}
+use Rattle.model.specs.Rankings.{later, Ordered, Lawful, regular_first, smaller, dm_ahead, ed_ahead}
 use Rattle.model.specs.declared.job.Job.{Job}
 
 -- a key whose comparisons do not change when both jobs move
@@ -17,3 +17,9 @@ module _ (key : Job → ℕ) (moved : (a b : Job) (n : ℕ) → nat_lt (key (lat
 
 pub regular_first_lawful : (order : Job → Job → Bool) → Ordered order → Lawful (regular_first order)
 regular_first_lawful order o = search rules
+
+pub dm_lawful : Lawful dm_ahead
+dm_lawful = regular_first_lawful (smaller (λ j. j.deadline)) (smaller_ordered (λ j. j.deadline) (λ a b n. grind (arith, nat_tests)))
+
+pub ed_lawful : Lawful ed_ahead
+ed_lawful = regular_first_lawful (smaller (λ j. j.release + j.deadline)) (smaller_ordered (λ j. j.release + j.deadline) (λ a b n. grind (arith, nat_tests)))

@@ -1,10 +1,8 @@
 //! The two rankings that a sheet can name.
 
-ghost use Rattle.std.specs.Prelude.{◌≡◌, ◌+◌};
-ghost use Rattle.model.specs.Rankings.{dm_ahead, ed_ahead, DmRule, EdRule, smaller};
-ghost use Rattle.std.proofs.Common.{arith};
-ghost use Rattle.std.proofs.lemmas.Bool.Decides.{nat_tests};
-ghost use Rattle.model.specs.Laws.{smaller-ordered, regular-first-lawful};
+ghost use Rattle.std.specs.Prelude.{◌≡◌};
+ghost use Rattle.model.specs.Rankings.{dm_ahead, ed_ahead, DmRule, EdRule};
+ghost use Rattle.model.specs.Laws.{dm_lawful, ed_lawful};
 
 use crate::job::Job;
 use crate::kind::Kind;
@@ -21,7 +19,7 @@ pub struct EarliestDeadline;
 impl Ranking for DeadlineMonotonic {
     ghost ahead = { λ _. dm_ahead };
 
-    ghost lawful = { λ s. regular-first-lawful (smaller (λ j. j.deadline)) (smaller-ordered (λ j. j.deadline) (λ a b n. Prim.grind (arith, nat_tests))) };
+    ghost lawful = { λ _. dm_lawful };
 
     fn goes_ahead(&self, a: &Job, b: &Job) -> bool
         ensures { result ≡ dm_ahead a.now b.now }
@@ -40,7 +38,7 @@ impl Ranking for DeadlineMonotonic {
 impl Ranking for EarliestDeadline {
     ghost ahead = { λ _. ed_ahead };
 
-    ghost lawful = { λ s. regular-first-lawful (smaller (λ j. j.release + j.deadline)) (smaller-ordered (λ j. j.release + j.deadline) (λ a b n. Prim.grind (arith, nat_tests))) };
+    ghost lawful = { λ _. ed_lawful };
 
     fn goes_ahead(&self, a: &Job, b: &Job) -> bool
         ensures { result ≡ ed_ahead a.now b.now }

@@ -22,7 +22,7 @@ pub returns : goal.returns
 returns g c =
     let xs = c.args.entries.now in
     let rank = g.met.T.Entry.ranks in
-    let some = eqb-false (length xs) 0 (sym c.if-is-empty.ensures) in
+    let some = eqb-false (length xs) 0 (sym c.if-is_empty.ensures) in
     let at_end : c.loop-i.i ≡ length xs = omega (arith, some, c.loop-i.auto.i-end (omega (arith, some))) in
     let first = subst (λ n. IsFirstBest g.T.Entry.before xs n c.loop-i.best) at_end c.loop-i.invariant in
     record { first = first; entry = entry_at rank xs c.loop-i.best first; only = only_first rank xs c.loop-i.best first }

@@ -12,14 +12,14 @@ returns-then-is-empty c = nil_from_length c.args.s.now (eqb-true _ _ (sym c.if-i
 
 pub returns-then-n-s : goal.returns-then-n-s
 returns-then-n-s c =
-    let f = c.first-of-n.ensures in
+    let f = c.first_of-n.ensures in
     let s = c.args.s.now in
-    let n = c.first-of-n.result in
+    let n = c.first_of-n.result in
     (rw (take_rest, sub-zero, add-one) (cut_at 10 lines_of (λ _ _. refl) s n c.if-n-s.true f.before (f.found c.if-n-s.true)), rw take_rest (omega (arith, length-drop (n + 1) s)))
 
 pub returns-else-n-s : goal.returns-else-n-s
 returns-else-n-s c =
     let s = c.args.s.now in
-    let n = c.first-of-n.result in
+    let n = c.first_of-n.result in
     let some : 0 < length s = grind (arith, nat_tests) in
-    rw (take_rest, drop_all n s c.if-n-s.false) (lines_end s some (λ k l. c.first-of-n.ensures.before k (omega arith)), some)
+    rw (take_rest, drop_all n s c.if-n-s.false) (lines_end s some (λ k l. c.first_of-n.ensures.before k (omega arith)), some)

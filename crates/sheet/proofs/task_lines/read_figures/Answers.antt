@@ -52,9 +52,9 @@ returns-in-err-read-end c = λ fields e.
 pub returns : goal.returns
 returns c = λ fields e.
     let start : At c.args.rest.now.place.line fields 2 c.args.rest.now = record { rest = e; line_is = refl; field_is = c.requires } in
-    let offset = step 2 start (λ l f. read_number l f 0) c.in-ok-offset.offset c.read-number.new.self (lit< tt) c.in-ok-offset.ensures.value c.in-ok-offset.ensures.moved in
-    let length = step 3 offset.1 (λ l f. read_number l f 1) c.in-ok-length.length c.read-number-2.new.self (lit< tt) c.in-ok-length.ensures.value c.in-ok-length.ensures.moved in
-    let deadline = step 4 length.1 (λ l f. read_number l f c.in-ok-length.length) c.in-ok-deadline.deadline c.read-number-3.new.self (lit< tt) c.in-ok-deadline.ensures.value c.in-ok-deadline.ensures.moved in
+    let offset = step 2 start (λ l f. read_number l f 0) c.in_ok-offset.offset c.read_number.new.self (lit< tt) c.in_ok-offset.ensures.value c.in_ok-offset.ensures.moved in
+    let length = step 3 offset.1 (λ l f. read_number l f 1) c.in_ok-length.length c.read-number-2.new.self (lit< tt) c.in_ok-length.ensures.value c.in_ok-length.ensures.moved in
+    let deadline = step 4 length.1 (λ l f. read_number l f c.in_ok-length.length) c.in-ok-deadline.deadline c.read-number-3.new.self (lit< tt) c.in-ok-deadline.ensures.value c.in-ok-deadline.ensures.moved in
     let period = step 5 deadline.1 (λ l f. read_number l f c.in-ok-deadline.deadline) c.in-ok-period.period c.read-number-4.new.self (lit< tt) c.in-ok-period.ensures.value c.in-ok-period.ensures.moved in
     let end = reads 6 period.1 (λ l _. read_end l) (Ok c.in-ok-read-end.field-0) c.in-ok-read-end.ensures in
     rw (offset.0, length.0, deadline.0, period.0, end)

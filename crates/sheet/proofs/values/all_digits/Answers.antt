@@ -8,7 +8,7 @@ pub returns-then-not-is-ascii-digit : goal.returns-then-not-is-ascii-digit
 returns-then-not-is-ascii-digit c = all_stops is_ascii_digit all_ascii_digits (λ _ _. refl) c.args.part.now c.loop-b.b-index c.loop-b-test.true (sym c.if-not-is-ascii-digit.ensures.value) c.loop-b.invariant
 
 pub loop-b-preserved : goal.loop-b-preserved
-loop-b-preserved c = all_again is_ascii_digit all_ascii_digits (λ _ _. refl) c.args.part.now c.loop-b.b-index c.loop-b-test.true (sym c.if-not-is-ascii-digit.ensures.value) c.loop-b.invariant
+loop-b-preserved c = all_again is_ascii_digit all_ascii_digits (λ _ _. refl) c.args.part.now c.loop-b.b-index c.loop-b-test.true (sym c.if-not-is_ascii_digit.ensures.value) c.loop-b.invariant
 
 pub returns : goal.returns
 returns c = all_ends is_ascii_digit all_ascii_digits (λ _ _. refl) c.args.part.now c.loop-b.b-index refl c.loop-b-test.false c.loop-b.invariant

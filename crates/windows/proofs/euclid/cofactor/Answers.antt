@@ -4,8 +4,8 @@ use Rattle.windows.specs.Euclid.{IsLcm}
 use Rattle.windows.proofs.Lcm.{lcm_is}
 use Rattle.windows.proofs.euclid.cofactor.Goals as goal
 
-pub nonzero-div-result : goal.nonzero-div-result
-nonzero-div-result c = pos_of_dvd_of_pos c.gcd.ensures.greatest.right c.requires
+pub nonzero_div-result : goal.nonzero_div-result
+nonzero_div-result c = pos_of_dvd_of_pos c.gcd.ensures.greatest.right c.requires
 
 pub returns : goal.returns
 returns c =

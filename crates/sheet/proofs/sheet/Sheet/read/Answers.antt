@@ -16,8 +16,8 @@ invariant-of-self-2 c =
 
 pub returns : goal.returns
 returns c =
-    let held : TaskSet = task_set c.in-ok-policy.field-0 (vec_items c.swap.new.x) in
-    let e : read_sheet c.args.text.now ≡ Ok held = c.in-ok-policy.ensures.read ∙ ap (λ v. Ok (task_set c.in-ok-policy.field-0 (vec_items v))) (sym c.swap.ensures.x-after) in
+    let held : TaskSet = task_set c.in_ok-policy.field-0 (vec_items c.swap.new.x) in
+    let e : read_sheet c.args.text.now ≡ Ok held = c.in_ok-policy.ensures.read ∙ ap (λ v. Ok (task_set c.in_ok-policy.field-0 (vec_items v))) (sym c.swap.ensures.x_after) in
     let r = read_admitted c.args.text.now held e in
     record { filled = rw e; grammar = r.0; says = r.1 }
 
