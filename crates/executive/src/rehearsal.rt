@@ -50,7 +50,7 @@ fn last_offset(lines: &[Line]) -> u32
 fn step_unmissed<R: Ranking>(slots: &mut [Slot], ranking: &R, t: u64) -> Result<(), Fault>
     requires { (AllKept t slots.old) × ((length slots.old ≤ 24) × (t < 10 ^ 12)) }
     ensures value { result ≡ miss_at t (tasks_of slots.old) }
-    ensures tasks { tasks_of slots.new ≡ stepped (ahead ranking.now) t (tasks_of slots.old) }
+    ensures tasks { tasks_of slots.new ≡ stepped (R.ahead ranking.now) t (tasks_of slots.old) }
     ensures kept { AllKept (t + 1) slots.new }
 {
     let lowest = step(slots, ranking, t).lowest;
@@ -66,7 +66,7 @@ fn step_unmissed<R: Ranking>(slots: &mut [Slot], ranking: &R, t: u64) -> Result<
 // Steps from instant `from` on, up to the first step that strikes a job out.
 fn run<R: Ranking>(slots: &mut [Slot], ranking: &R, from: u64, units: u64) -> Result<(), Fault>
     requires { (AllKept from slots.old) × ((length slots.old ≤ 24) × (from + units ≤ 10 ^ 12)) }
-    ensures reached { and_then result (λ _. Ok (tasks_of slots.new)) ≡ run_units (ahead ranking.now) units from (tasks_of slots.old) }
+    ensures reached { and_then result (λ _. Ok (tasks_of slots.new)) ≡ run_units (R.ahead ranking.now) units from (tasks_of slots.old) }
     ensures kept { OnOk result (AllKept (from + units) slots.new) }
 {
     for t in from..from + units {
@@ -97,7 +97,7 @@ fn between_marks<R: Ranking>(
     h: u64,
 ) -> Result<(), Fault>
     requires { (AllKept 0 slots.old) × ((length slots.old ≤ 24) × ((length saved.old ≡ length slots.old) × (mark + h ≤ 10 ^ 12))) }
-    ensures { result ≡ betweenMarksOf (ahead ranking.now) mark h (tasks_of slots.old) }
+    ensures { result ≡ betweenMarksOf (R.ahead ranking.now) mark h (tasks_of slots.old) }
 {
     run(slots, ranking, 0, mark)?;
     saved.copy_from_slice(slots);
@@ -111,8 +111,8 @@ fn between_marks<R: Ranking>(
 
 pub(crate) fn rehearse_lines<R: Ranking>(lines: &[Line], ranking: &R, h: u32) -> Result<(), Fault>
     requires { (AllRanged lines.now) × ((length lines.now ≤ 24) × (h ≤ 1000000)) }
-    ensures value { result ≡ rehearsal_of (ahead ranking.now) h lines.now }
-    ensures rules { OnlyRehearsed (ahead ranking.now) h lines.now result }
+    ensures value { result ≡ rehearsal_of (R.ahead ranking.now) h lines.now }
+    ensures rules { OnlyRehearsed (R.ahead ranking.now) h lines.now result }
 {
     if load(lines, h) > h as u64 {
         return Err(Fault::Overload);
@@ -128,8 +128,8 @@ pub(crate) fn rehearse_lines<R: Ranking>(lines: &[Line], ranking: &R, h: u32) ->
 
 // Rehearses a plan under any lawful ranking; neither is altered.
 pub fn rehearse<R: Ranking>(plan: &Plan, ranking: &R) -> Result<(), Fault>
-    ensures value { result ≡ rehearsal_of (ahead ranking.now) (hyperperiod plan.now.lines.items) plan.now.lines.items }
-    ensures only { OnlyRehearsed (ahead ranking.now) (hyperperiod plan.now.lines.items) plan.now.lines.items result }
+    ensures value { result ≡ rehearsal_of (R.ahead ranking.now) (hyperperiod plan.now.lines.items) plan.now.lines.items }
+    ensures only { OnlyRehearsed (R.ahead ranking.now) (hyperperiod plan.now.lines.items) plan.now.lines.items result }
 {
     rehearse_lines(plan.lines(), ranking, plan.hyperperiod())
 }

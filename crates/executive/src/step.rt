@@ -83,7 +83,7 @@ fn overtakes<R: Ranking>(slots: &[Slot], ranking: &R, i: usize, best: usize) -> 
 
 // The place of the pending job that goes first.
 pub(crate) fn first<R: Ranking>(slots: &[Slot], ranking: &R) -> Option<usize>
-    ensures value { task_at slots.now result ≡ first_of (ahead ranking.now) (tasks_of slots.now) }
+    ensures value { task_at slots.now result ≡ first_of (R.ahead ranking.now) (tasks_of slots.now) }
     ensures within { Within slots.now result }
 {
     let start = first_pending(slots);
@@ -118,11 +118,11 @@ fn give_unit(task: &mut Task, struck: u32) -> StepReport
 // The unit at instant `t`.
 pub(crate) fn step<R: Ranking>(slots: &mut [Slot], ranking: &R, t: u64) -> Stepped
     requires { (AllKept t slots.old) × ((length slots.old ≤ 24) × (t < 10 ^ 12)) }
-    ensures tasks { tasks_of slots.new ≡ steppedAll (ahead ranking.now) t (tasks_of slots.old) }
+    ensures tasks { tasks_of slots.new ≡ steppedAll (R.ahead ranking.now) t (tasks_of slots.old) }
     ensures kept { AllKept (t + 1) slots.new }
-    ensures report { result.report ≡ report_of (ahead ranking.now) t (tasks_of slots.old) }
+    ensures report { result.report ≡ report_of (R.ahead ranking.now) t (tasks_of slots.old) }
     ensures lowest { result.lowest ≡ lowest_due t (tasks_of slots.old) }
-    ensures first { ToFirst (ahead ranking.now) (arrived_all t (tasks_of slots.old)) result.report.line }
+    ensures first { ToFirst (R.ahead ranking.now) (arrived_all t (tasks_of slots.old)) result.report.line }
 {
     let struck = arrive_all(slots, t);
     let report = match first(slots, ranking) {

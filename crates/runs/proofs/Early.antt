@@ -19,7 +19,7 @@ use Rattle.runs.specs.Rehearsals.{last_offset, rehearsal_of}
 use Rattle.runs.proofs.Reported.{report_struck}
 use Rattle.runs.proofs.Basics.{Basic, formed, basics}
 use Rattle.runs.proofs.Dominance.{Under, Dom, due_under, Lowered, on_line_dom, ended_lowers, rested_lowers, resumed_lowers, step_dom}
-use Rattle.runs.proofs.Folding.{offset_below, length_state, state_at, state_well_formed, state_arrives, state_clear, fold_dom}
+use Rattle.runs.proofs.Folding.{offset_below, length_state, state_at_lem, state_well_formed, state_arrives, state_clear, fold_dom}
 use Rattle.runs.proofs.Inductions.{every_run}
 use Rattle.runs.proofs.Latest.{release_again}
 use Rattle.runs.specs.RehearsalRules.{state_at}
@@ -75,7 +75,7 @@ module _ (ahead : Job → Job → Bool) (lawful : Lawful ahead) (ls : List Line)
           same_length = length_new_tasks 1 ls ∙ sym (length_state ahead ls f.τ);
           under = λ i h.
               let hi : i < length ls = omega (arith, length_new_tasks 1 ls) in
-              let s = state_at ahead ls f.τ i hi in
+              let s = state_at_lem ahead ls f.τ i hi in
               subst (λ x. Under f.σ x (task_of (state_at ahead ls f.τ) i)) (sym (new_tasks_at 1 ls i blank_task blank hi))
               (record { same_number = sym s.0; same_line = sym s.1; less = λ some. absurd (omega arith); released = λ some. absurd (omega arith) });
         };

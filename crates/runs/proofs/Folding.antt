@@ -61,20 +61,20 @@ module _ (ahead : Job → Job → Bool) (ls : List Line) where
   length_state zero = length_new_tasks 1 ls
   length_state (suc n) = length_stepped ahead n (state_at ahead ls n) ∙ length_state n
 
-  pub state_at : (n i : ℕ) → i < length ls → Same (new_task (1 + i) (get_or ls i blank)) (task_of (state_at ahead ls n) i)
-  state_at zero i h = subst (Same (new_task (1 + i) (get_or ls i blank))) (sym (new_tasks_at 1 ls i blank_task blank h)) (refl, refl, refl)
-  state_at (suc n) i h =
+  pub state_at_lem : (n i : ℕ) → i < length ls → Same (new_task (1 + i) (get_or ls i blank)) (task_of (state_at ahead ls n) i)
+  state_at_lem zero i h = subst (Same (new_task (1 + i) (get_or ls i blank))) (sym (new_tasks_at 1 ls i blank_task blank h)) (refl, refl, refl)
+  state_at_lem (suc n) i h =
       let x = task_of (state_at ahead ls n) i in
       let inside : i < length (state_at ahead ls n) = omega (arith, length_state n) in
       subst (Same (new_task (1 + i) (get_or ls i blank))) (sym (stepped_at ahead n (state_at ahead ls n) i inside))
-      (same_both (new_task (1 + i) (get_or ls i blank)) x (served (who ahead n (state_at ahead ls n)) (arrived n x)) (state_at n i h) (step_same n (who ahead n (state_at ahead ls n)) x))
+      (same_both (new_task (1 + i) (get_or ls i blank)) x (served (who ahead n (state_at ahead ls n)) (arrived n x)) (state_at_lem n i h) (step_same n (who ahead n (state_at ahead ls n)) x))
 
   latest_at : (n i : ℕ) → i < length ls → 0 < (get_or ls i blank).period → (get_or ls i blank).offset < n → Latest (get_or ls i blank) n (task_of (state_at ahead ls n) i).release
   latest_at zero i h p from = absurd (omega arith)
   latest_at (suc n) i h p from =
       let l = get_or ls i blank in
       let x = task_of (state_at ahead ls n) i in
-      let s = state_at n i h in
+      let s = state_at_lem n i h in
       let inside : i < length (state_at ahead ls n) = omega (arith, length_state n) in
       let w = who ahead n (state_at ahead ls n) in
       let at = stepped_at ahead n (state_at ahead ls n) i inside in
@@ -105,7 +105,7 @@ module _ (ahead : Job → Job → Bool) (ls : List Line) where
 
     pub state_arrives : (n i : ℕ) → i < length ls → arrives n (task_of (state_at ahead ls n) i) ≡ releases_at (get_or ls i blank) n
     state_arrives n i h =
-        let s = state_at n i h in
+        let s = state_at_lem n i h in
         ap (λ b. not b && releases_at (task_of (state_at ahead ls n) i).line n) s.2 ∙ ap (λ l. releases_at l n) s.1
 
     module _ (ok : rehearsal_of ahead m ls ≡ Ok tt) where
@@ -123,8 +123,8 @@ module _ (ahead : Job → Job → Bool) (ls : List Line) where
             under = λ i h.
                 let hi : i < length ls = omega (arith, dom.same_length, two) in
                 let u = dom.under i h in
-                let a = state_at mark i hi in
-                let b = state_at (mark + m) i hi in
+                let a = state_at_lem mark i hi in
+                let b = state_at_lem (mark + m) i hi in
                 let p = period_at i hi in
                 let from : (get_or ls i blank).offset < mark = omega (arith, offset_below ls i hi, plan.some) in
                 let c = plan.whole i hi in

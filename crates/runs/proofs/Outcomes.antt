@@ -11,7 +11,6 @@ use Rattle.runs.specs.declared.call.Reply.TheVariants.{Done, Refused}
 use Rattle.runs.specs.declared.call.Reply.TheVariants.{Unit as UnitGiven}
 use Rattle.runs.specs.declared.jitter.Track.{Track}
 use Rattle.runs.specs.declared.task.Task.{Task}
-use Rattle.executive.specs.Changes.{alike, line_to_change}
 use Rattle.runs.specs.Tasks.{ended_early, rested, resumed}
 use Rattle.runs.specs.Steps.{stepped, report_of}
 use Rattle.runs.specs.Jitter.{note_start}

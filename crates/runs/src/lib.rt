@@ -13,7 +13,7 @@ pub mod task;
 
 // Of every lawful ranking, plan, start and list of calls.
 pub fn promise_stands<R: Ranking>(ranking: &R) -> u8
-    ensures { Promise (ahead ranking.now) }
+    ensures { Promise (R.ahead ranking.now) }
 {
     0
 }

@@ -25,7 +25,7 @@ impl<R: Ranking> Executive<R> {
     pub fn take_each(&mut self, calls: &[Call], replies: &mut [Reply]) -> usize
         ensures count { result ≡ min (length calls.now) (length replies.old) }
         ensures behind { drop result replies.new ≡ drop result replies.old }
-        ensures took { TookEach (ahead self.old.ranking) self.old self.new (events_of calls.now replies.new) }
+        ensures took { TookEach (R.ahead self.old.ranking) self.old self.new (events_of calls.now replies.new) }
     {
         let n = places(calls, replies);
         for i in 0..n {
@@ -47,8 +47,8 @@ pub fn run<R: Ranking>(
     ensures plan { result.plan ≡ plan }
     ensures ranking { result.ranking ≡ ranking }
     ensures behind { drop (length calls.now) replies.new ≡ drop (length calls.now) replies.old }
-    ensures ran { Ran (ahead ranking) plan.lines.items start (events_of calls.now replies.new) (view_of result) }
-    ensures promised { Promised (ahead ranking) plan.lines.items (hyperperiod plan.lines.items) start (events_of calls.now replies.new) (view_of result) }
+    ensures ran { Ran (R.ahead ranking) plan.lines.items start (events_of calls.now replies.new) (view_of result) }
+    ensures promised { Promised (R.ahead ranking) plan.lines.items (hyperperiod plan.lines.items) start (events_of calls.now replies.new) (view_of result) }
 {
     let mut executive = Executive::start(plan, ranking, start);
     executive.take_each(calls, replies);

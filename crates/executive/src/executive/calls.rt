@@ -109,7 +109,7 @@ impl<R: Ranking> Executive<R> {
     }
 
     pub fn step(&mut self) -> Result<StepReport, Fault>
-        ensures { Took (ahead self.old.ranking) self.old self.new Step (unit_or result) }
+        ensures { Took (R.ahead self.old.ranking) self.old self.new Step (unit_or result) }
     {
         if self.clock >= LAST_CLOCK {
             return Err(Fault::ClockAtEnd { clock: self.clock });
@@ -124,7 +124,7 @@ impl<R: Ranking> Executive<R> {
 
     // The job of the last unit is over.
     pub fn early_end(&mut self) -> Result<(), Fault>
-        ensures { Took (ahead self.old.ranking) self.old self.new EarlyEnd (done_or result) }
+        ensures { Took (R.ahead self.old.ranking) self.old self.new EarlyEnd (done_or result) }
     {
         let n = self.line_count();
         match last_after(&mut self.last, Event::EarlyEnd) {
@@ -138,7 +138,7 @@ impl<R: Ranking> Executive<R> {
 
     // An ordinary line makes no jobs until it is resumed, and its pending job is set aside.
     pub fn rest(&mut self, number: u64) -> Result<(), Fault>
-        ensures { Took (ahead self.old.ranking) self.old self.new (Rest number) (done_or result) }
+        ensures { Took (R.ahead self.old.ranking) self.old self.new (Rest number) (done_or result) }
     {
         let n = self.line_count();
         let line = line_to_change(&self.slots[0..n], number, true)?;
@@ -148,7 +148,7 @@ impl<R: Ranking> Executive<R> {
     }
 
     pub fn resume(&mut self, number: u64) -> Result<(), Fault>
-        ensures { Took (ahead self.old.ranking) self.old self.new (Resume number) (done_or result) }
+        ensures { Took (R.ahead self.old.ranking) self.old self.new (Resume number) (done_or result) }
     {
         let n = self.line_count();
         let line = line_to_change(&self.slots[0..n], number, false)?;
@@ -157,7 +157,7 @@ impl<R: Ranking> Executive<R> {
     }
 
     pub fn take(&mut self, call: Call) -> Reply
-        ensures { Took (ahead self.old.ranking) self.old self.new call result }
+        ensures { Took (R.ahead self.old.ranking) self.old self.new call result }
     {
         match call {
             Call::Step => unit_or(self.step()),

@@ -15,7 +15,7 @@ impl<R: Ranking> Executive<R> {
     // A line's jitter figures.
     pub fn figures(&self, number: u64) -> Result<Figures, Fault>
         ensures value { result ≡ figures_in number (view_of self.now) }
-        ensures run { OfTheRun (ahead self.now.ranking) self.now.plan.lines.items (view_of self.now) number result }
+        ensures run { OfTheRun (R.ahead self.now.ranking) self.now.plan.lines.items (view_of self.now) number result }
     {
         let n = self.line_count();
         let i = place_in(n, number)?;

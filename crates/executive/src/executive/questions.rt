@@ -14,7 +14,7 @@ impl<R: Ranking> Executive<R> {
     pub fn coming(&self) -> Option<Release>
         ensures value { result ≡ coming_of (view_of self.now) }
         ensures first { IsComingOf (view_of self.now) result }
-        ensures run { (start : ℕ) (h : History) → Ran (ahead self.now.ranking) self.now.plan.lines.items start h (view_of self.now) → ComingOfRun self.now.plan.lines.items (start_of start) h result }
+        ensures run { (start : ℕ) (h : History) → Ran (R.ahead self.now.ranking) self.now.plan.lines.items start h (view_of self.now) → ComingOfRun self.now.plan.lines.items (start_of start) h result }
     {
         let n = self.line_count();
         coming_release(&self.slots[0..n])
@@ -24,7 +24,7 @@ impl<R: Ranking> Executive<R> {
     pub fn worst(&self) -> Option<Deviating>
         ensures value { result ≡ worst_of (view_of self.now) }
         ensures first { IsWorstOf (view_of self.now) result }
-        ensures run { (start : ℕ) (h : History) → Ran (ahead self.now.ranking) self.now.plan.lines.items start h (view_of self.now) → WorstOfRun self.now.plan.lines.items (start_of start) h result }
+        ensures run { (start : ℕ) (h : History) → Ran (R.ahead self.now.ranking) self.now.plan.lines.items start h (view_of self.now) → WorstOfRun self.now.plan.lines.items (start_of start) h result }
     {
         let n = self.line_count();
         worst_line(&self.tracks[0..n])

@@ -10,11 +10,11 @@ pub returns : goal.returns
 returns c =
     let xs = c.args.slots.now in
     let i = c.args.line - 1 in
-    let y = c.end-job.new.slot in
+    let y = c.end_job.new.slot in
     let in' : i < length xs = omega (arith, c.requires.line.0, c.requires.line.1) in
     let line : i + 1 ≡ c.args.line = omega (arith, c.requires.line.0) in
-    let is = c.end-job.ensures.task in
+    let is = c.end_job.ensures.task in
     record {
       tasks = set_on_line xs i y in' ended_early (numbers c.requires.kept.0 xs c.requires.kept.2) is ∙ ap (λ n. on_line n ended_early (tasks_of xs)) line;
-      kept = λ t all. set_kept t xs i y in' all (ap (λ z. z.number) is) (kept_ended t (get_or xs i blank_slot) y (all i in').1 c.end-job.ensures.next c.requires.pending is);
+      kept = λ t all. set_kept t xs i y in' all (ap (λ z. z.number) is) (kept_ended t (get_or xs i blank_slot) y (all i in').1 c.end_job.ensures.next c.requires.pending is);
     }

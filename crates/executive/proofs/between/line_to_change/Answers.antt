@@ -9,19 +9,19 @@ use Rattle.executive.proofs.Places.{task_at_lem, length_tasks}
 use Rattle.executive.proofs.LookUps.{found, not_found}
 use Rattle.executive.proofs.between.line_to_change.Goals as goal
 
-pub returns-in-err-i : goal.returns-in-err-i
-returns-in-err-i c =
+pub returns-in_err-i : goal.returns-in_err-i
+returns-in_err-i c =
     let xs = c.args.slots.now in
     let number = c.args.number in
-    let p = err_from_is_err_and c.from-residual.result c.from-residual.ensures.1 in
-    let none = not_found (length xs) number p.0 (ap Err p.2 ∙ c.in-err-i.ensures) in
+    let p = err_from_is_err_and c.from_residual.result c.from_residual.ensures.1 in
+    let none = not_found (length xs) number p.0 (ap Err p.2 ∙ c.in_err-i.ensures) in
     p.1 ∙ ap Err none.1 ∙ sym (cond-false _ _ _ (ap (λ n. is_line n number) (length_tasks xs) ∙ none.0))
 
 pub returns : goal.returns
 returns c =
     let xs = c.args.slots.now in
     let number = c.args.number in
-    let one = found (length xs) number c.in-ok-i.i c.in-ok-i.ensures in
-    c.may-change.ensures
-    ∙ ap (change_of c.args.resting number) (sym (task_at_lem xs c.in-ok-i.i blank_task one.2) ∙ ap (λ k. get_or (tasks_of xs) k blank_task) one.1)
+    let one = found (length xs) number c.in_ok-i.i c.in_ok-i.ensures in
+    c.may_change.ensures
+    ∙ ap (change_of c.args.resting number) (sym (task_at_lem xs c.in_ok-i.i blank_task one.2) ∙ ap (λ k. get_or (tasks_of xs) k blank_task) one.1)
     ∙ sym (cond-true _ _ _ (ap (λ n. is_line n number) (length_tasks xs) ∙ one.0))

@@ -10,20 +10,20 @@ loop-t-preserved g c =
     let ah = g.R.Ranking.ahead c.args.ranking.now in
     let t = c.loop-t.t in
     let xs = tasks_of c.loop-t.slots in
-    let ys = tasks_of c.step-unmissed.new.slots in
+    let ys = tasks_of c.step_unmissed.new.slots in
     let all = run_units ah c.args.units c.args.from (tasks_of c.args.slots.now) in
-    (run_on ah (c.args.from + c.args.units) t xs all c.loop-t-test.true c.loop-t.invariant.0 ys c.step-unmissed.ensures.tasks c.in-ok-step-unmissed.ensures.value, c.step-unmissed.ensures.kept)
+    (run_on ah (c.args.from + c.args.units) t xs all c.loop-t-test.true c.loop-t.invariant.0 ys c.step_unmissed.ensures.tasks c.in_ok-step_unmissed.ensures.value, c.step_unmissed.ensures.kept)
 
-pub returns-in-err-step-unmissed : goal.returns-in-err-step-unmissed
-returns-in-err-step-unmissed g c =
+pub returns-in_err-step_unmissed : goal.returns-in_err-step_unmissed
+returns-in_err-step_unmissed g c =
     let ah = g.R.Ranking.ahead c.args.ranking.now in
     let t = c.loop-t.t in
     let all = run_units ah c.args.units c.args.from (tasks_of c.args.slots.now) in
-    let p = err_from_is_err_and c.from-residual.result c.from-residual.ensures.1 in
+    let p = err_from_is_err_and c.from_residual.result c.from_residual.ensures.1 in
     let stops = run_stops ah (c.args.from + c.args.units) t (tasks_of c.loop-t.slots) all c.loop-t-test.true c.loop-t.invariant.0 in
     record {
-      reached = ap (λ r. and_then r (λ _. Ok (tasks_of c.step-unmissed.new.slots))) p.1 ∙ stops p.0 (ap (λ e. Err e) p.2 ∙ c.in-err-step-unmissed.ensures.value);
-      kept = IfOk-from_err c.from-residual.result (λ _. AllKept (c.args.from + c.args.units) c.step-unmissed.new.slots) c.from-residual.ensures.0;
+      reached = ap (λ r. and_then r (λ _. Ok (tasks_of c.step_unmissed.new.slots))) p.1 ∙ stops p.0 (ap (λ e. Err e) p.2 ∙ c.in_err-step_unmissed.ensures.value);
+      kept = IfOk-from_err c.from_residual.result (λ _. AllKept (c.args.from + c.args.units) c.step_unmissed.new.slots) c.from_residual.ensures.0;
     }
 
 pub returns : goal.returns

@@ -9,17 +9,17 @@ use Rattle.executive.proofs.step.first.Goals.{then-overtakes, else-overtakes}
 pub returns-then-start-slots : goal.returns-then-start-slots
 returns-then-start-slots g c =
     let ah = g.R.Ranking.ahead c.args.ranking.now in
-    let none = first_all ah c.args.slots.now c.first-pending-start.result None (omega (arith, c.if-start-slots.true)) in
-    record { value = none ∙ c.first-pending-start.ensures.before ah; within = tt }
+    let none = first_all ah c.args.slots.now c.first_pending-start.result None (omega (arith, c.if-start-slots.true)) in
+    record { value = none ∙ c.first_pending-start.ensures.before ah; within = tt }
 
 pub loop-i-init : goal.loop-i-init
 loop-i-init g c =
     let ah = g.R.Ranking.ahead c.args.ranking.now in
     let xs = c.args.slots.now in
-    let start = c.first-pending-start.result in
-    let inside : start < length xs = omega (arith, c.first-pending-start.ensures.within, c.if-start-slots.false) in
-    let found = c.first-pending-start.ensures.found inside in
-    (first_more ah xs start None (Some (get_or xs start blank_slot).task) inside (sym (cond-true _ _ _ found)) ∙ c.first-pending-start.ensures.before ah, inside)
+    let start = c.first_pending-start.result in
+    let inside : start < length xs = omega (arith, c.first_pending-start.ensures.within, c.if-start-slots.false) in
+    let found = c.first_pending-start.ensures.found inside in
+    (first_more ah xs start None (Some (get_or xs start blank_slot).task) inside (sym (cond-true _ _ _ found)) ∙ c.first_pending-start.ensures.before ah, inside)
 
 pub loop-i-preserved : goal.loop-i-preserved
 loop-i-preserved g c =

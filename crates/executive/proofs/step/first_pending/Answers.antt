@@ -5,5 +5,5 @@ use Rattle.executive.proofs.step.first_pending.Goals as goal
 
 pub loop-i-preserved : goal.loop-i-preserved
 loop-i-preserved c ahead =
-    first_more ahead c.args.slots.now c.loop-i.i None None c.loop-i-test.true (sym (cond-false _ _ _ (sym c.is-pending.ensures ∙ c.if-is-pending.false)))
+    first_more ahead c.args.slots.now c.loop-i.i None None c.loop-i-test.true (sym (cond-false _ _ _ (sym c.is_pending.ensures ∙ c.if-is_pending.false)))
     ∙ c.loop-i.invariant ahead

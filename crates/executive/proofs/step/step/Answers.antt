@@ -7,13 +7,13 @@ use Rattle.executive.proofs.OneStep.{report_is, report_to_first, unit_to_none, f
 use Rattle.executive.proofs.Places.{slot_at, kept_formed}
 use Rattle.executive.proofs.step.step.Goals as goal
 
-pub give-unit-report-requires : goal.give-unit-report-requires
-give-unit-report-requires g c =
+pub give_unit-report-requires : goal.give_unit-report-requires
+give_unit-report-requires g c =
     let ah = g.R.Ranking.ahead c.args.ranking.now in
     let t = c.args.t in
-    let ys = c.arrive-all-struck.new.slots in
+    let ys = c.arrive_all-struck.new.slots in
     let few : length ys ≤ 24 = omega arith in
-    let kept = c.arrive-all-struck.ensures.kept in
+    let kept = c.arrive_all-struck.ensures.kept in
     let first = c.in-Some.ensures in
     (first_pending ah (t + 1) ys few kept c.in-Some.i first.within first.value (g.met.R.Ranking.lawful c.args.ranking.now), omega (arith, few_ended ah (t + 1) ys few kept c.in-Some.i first.within first.value))
 
@@ -23,16 +23,16 @@ returns-in-Some g c =
     let lawful = g.met.R.Ranking.lawful c.args.ranking.now in
     let t = c.args.t in
     let xs = tasks_of c.args.slots.now in
-    let ys = c.arrive-all-struck.new.slots in
+    let ys = c.arrive_all-struck.new.slots in
     let i = c.in-Some.i in
     let few : length ys ≤ 24 = omega arith in
-    let all = c.arrive-all-struck.ensures in
+    let all = c.arrive_all-struck.ensures in
     let first = c.in-Some.ensures in
-    let unit = c.give-unit-report.ensures in
-    let v : Slot = record { task = c.give-unit-report.new.task; next = (slot_at ys i).next } in
+    let unit = c.give_unit-report.ensures in
+    let v : Slot = record { task = c.give_unit-report.new.task; next = (slot_at ys i).next } in
     let o = Some (slot_at ys i).task in
-    let n = c.arrive-all-struck.result.count in
-    let r = c.give-unit-report.result in
+    let n = c.arrive_all-struck.result.count in
+    let r = c.give_unit-report.result in
     record {
       tasks = unit_to_one ah (t + 1) ys few all.kept i first.within first.value v unit.task ∙ ap (λ zs. map (served (number_of (first_of ah zs))) zs) all.tasks;
       kept = unit_kept ah (t + 1) ys few all.kept i first.within first.value v unit.task lawful refl;
@@ -46,11 +46,11 @@ returns-in-None g c =
     let ah = g.R.Ranking.ahead c.args.ranking.now in
     let t = c.args.t in
     let xs = tasks_of c.args.slots.now in
-    let ys = c.arrive-all-struck.new.slots in
+    let ys = c.arrive_all-struck.new.slots in
     let few : length ys ≤ 24 = omega arith in
-    let all = c.arrive-all-struck.ensures in
+    let all = c.arrive_all-struck.ensures in
     let none = c.in-None.ensures.value in
-    let n = c.arrive-all-struck.result.count in
+    let n = c.arrive_all-struck.result.count in
     let r = report_for None n in
     record {
       tasks = unit_to_none ah (t + 1) ys few all.kept none ∙ ap (λ zs. map (served (number_of (first_of ah zs))) zs) all.tasks;

@@ -19,7 +19,7 @@ returns c =
     let i = r.line - 1 in
     let began : r.began ≡ true = not-false _ c.if-not-report.false in
     let line = c.requires.line began in
-    let is = c.note.ensures.track ∙ ap (λ b. noted (get_or ls i blank) b (get_or ks i no_track)) c.start-at.ensures in
+    let is = c.note.ensures.track ∙ ap (λ b. noted (get_or ls i blank) b (get_or ks i no_track)) c.start_at.ensures in
     record {
       tracks = one_noted t ls ks c.requires.tracked r began line.0 line.1 c.note.new.track is;
       tracked = one_tracked t ls ks c.requires.tracked r began line.0 line.1 c.note.new.track is;

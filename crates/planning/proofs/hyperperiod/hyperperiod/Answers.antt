@@ -8,11 +8,11 @@ use Rattle.planning.proofs.Multiples.{is_hyperperiod, none_within, within_none, 
 use Rattle.planning.proofs.Options.{some_none}
 use Rattle.planning.proofs.hyperperiod.hyperperiod.Goals as goal
 
-pub returns-in-default : goal.returns-in-default
-returns-in-default c =
+pub returns-in_default : goal.returns-in_default
+returns-in_default c =
     let ls = c.args.lines.now in
     let i = c.loop-i.i in
-    let some : passes_at 1 1 ls ≡ Some (i + 1) = sym c.loop-i.invariant.0 ∙ goes_past ls i c.loop-i.h c.loop-i-test.true c.in-default.ensures in
+    let some : passes_at 1 1 ls ≡ Some (i + 1) = sym c.loop-i.invariant.0 ∙ goes_past ls i c.loop-i.h c.loop-i-test.true c.in_default.ensures in
     record {
       value = sym (ap (λ o. refuse o HyperperiodTooLong (Ok (hyper_from 1 ls))) some);
       least = is_hyperperiod ls;

@@ -15,8 +15,8 @@ returns-then-at-lines t c =
     let n = c.args.at in
     record { kept = refl {a = take n ls}; same = refl {a = map unplaced (drop n ls)}; found = at_drop_all (place (take n ls)) ls n (omega arith) ∙ ap Some (take_all n ls (omega arith)) }
 
-pub returns-then-not-is-regular : goal.returns-then-not-is-regular
-returns-then-not-is-regular t c =
+pub returns-then-not-is_regular : goal.returns-then-not-is_regular
+returns-then-not-is_regular t c =
     let ls = c.args.lines.now in
     let n = c.args.at in
     let last = c.place.new.lines in
@@ -26,7 +26,7 @@ returns-then-not-is-regular t c =
       kept = f.0;
       same = f.1;
       found =
-          at_drop_more (place (take n ls)) ls n blank inside ∙ place_ordinary (take n ls) (get_or ls n blank) (drop (n + 1) ls) (sym c.if-not-is-regular.ensures)
+          at_drop_more (place (take n ls)) ls n blank inside ∙ place_ordinary (take n ls) (get_or ls n blank) (drop (n + 1) ls) (sym c.if-not-is_regular.ensures)
           ∙ ap (λ xs. place xs (drop (n + 1) ls)) (sym (take_more ls n blank inside)) ∙ c.place.ensures.found;
     }
 
@@ -39,7 +39,7 @@ loop-n-init t c =
       refl,
       refl,
       ap (λ k. try_from k 0 (candidate (take n ls) l (drop (n + 1) ls))) (sub-zero l.period)
-          ∙ sym (at_drop_more (place (take n ls)) ls n blank inside ∙ place_regular (take n ls) l (drop (n + 1) ls) (sym c.if-not-is-regular.ensures)),
+          ∙ sym (at_drop_more (place (take n ls)) ls n blank inside ∙ place_regular (take n ls) l (drop (n + 1) ls) (sym c.if-not-is_regular.ensures)),
     )
 
 pub candidate-line-requires : goal.candidate-line-requires
@@ -47,7 +47,7 @@ candidate-line-requires t c =
     let was = c.args.lines.now in
     let ls = c.loop-n.lines in
     let at = c.args.at in
-    let regular : is_regular (get_or was at blank) ≡ true = sym c.if-not-is-regular.ensures in
+    let regular : is_regular (get_or was at blank) ≡ true = sym c.if-not-is_regular.ensures in
     let same = same_period (get_or was at blank) (get_or ls at blank) (sym (here was ls at (omega arith) (omega arith) c.loop-n.invariant.0 c.loop-n.invariant.1)) regular in
     subst (λ p. c.loop-n.n < p) same c.loop-n-test.true
 
@@ -64,7 +64,7 @@ returns-then-place t c =
     let kept = c.loop-n.invariant.0 in
     let same = c.loop-n.invariant.1 in
     let is = c.candidate-line.ensures in
-    let regular : is_regular (get_or was at blank) ≡ true = sym c.if-not-is-regular.ensures in
+    let regular : is_regular (get_or was at blank) ≡ true = sym c.if-not-is_regular.ensures in
     let behind = left_behind was ls at within inside kept same regular n m is last c.place-then-clear.auto.lines c.place-then-clear.ensures.kept c.place-then-clear.ensures.same in
     let cand = candidate (take at was) (get_or was at blank) (drop (at + 1) was) in
     let found : cand n ≡ Some last = goes_on was ls at within inside kept same regular n m is (Some last) c.if-clear.ensures c.if-place.ensures.found in
@@ -87,7 +87,7 @@ loop-n-preserved t c =
     let kept = c.loop-n.invariant.0 in
     let same = c.loop-n.invariant.1 in
     let is = c.candidate-line.ensures in
-    let regular : is_regular (get_or was at blank) ≡ true = sym c.if-not-is-regular.ensures in
+    let regular : is_regular (get_or was at blank) ≡ true = sym c.if-not-is_regular.ensures in
     let cand = candidate (take at was) (get_or was at blank) (drop (at + 1) was) in
     let period = (get_or was at blank).period in
     let next : cand n ≡ None → try_from (period - (n + 1)) (n + 1) cand ≡ place (take at was) (drop at was) =

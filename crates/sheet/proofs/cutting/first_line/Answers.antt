@@ -7,8 +7,8 @@ use Rattle.sheet.specs.Cutting.{lines_of}
 use Rattle.sheet.proofs.Cuts.{cut_at, lines_end}
 use Rattle.sheet.proofs.cutting.first_line.Goals as goal
 
-pub returns-then-is-empty : goal.returns-then-is-empty
-returns-then-is-empty c = nil_from_length c.args.s.now (eqb-true _ _ (sym c.if-is-empty.ensures))
+pub returns-then-is_empty : goal.returns-then-is_empty
+returns-then-is_empty c = nil_from_length c.args.s.now (eqb-true _ _ (sym c.if-is_empty.ensures))
 
 pub returns-then-n-s : goal.returns-then-n-s
 returns-then-n-s c =

@@ -4,8 +4,8 @@ use Rattle.std.specs.Char.{is_ascii_digit}
 use Rattle.sheet.proofs.Walks.{all_again, all_stops, all_ends}
 use Rattle.sheet.proofs.values.all_digits.Goals as goal
 
-pub returns-then-not-is-ascii-digit : goal.returns-then-not-is-ascii-digit
-returns-then-not-is-ascii-digit c = all_stops is_ascii_digit all_ascii_digits (λ _ _. refl) c.args.part.now c.loop-b.b-index c.loop-b-test.true (sym c.if-not-is-ascii-digit.ensures.value) c.loop-b.invariant
+pub returns-then-not-is_ascii_digit : goal.returns-then-not-is_ascii_digit
+returns-then-not-is_ascii_digit c = all_stops is_ascii_digit all_ascii_digits (λ _ _. refl) c.args.part.now c.loop-b.b-index c.loop-b-test.true (sym c.if-not-is_ascii_digit.ensures.value) c.loop-b.invariant
 
 pub loop-b-preserved : goal.loop-b-preserved
 loop-b-preserved c = all_again is_ascii_digit all_ascii_digits (λ _ _. refl) c.args.part.now c.loop-b.b-index c.loop-b-test.true (sym c.if-not-is_ascii_digit.ensures.value) c.loop-b.invariant

@@ -4,8 +4,8 @@ use Rattle.std.specs.Char.{is_ascii_alphanumeric}
 use Rattle.sheet.proofs.Walks.{all_again, all_stops, all_ends}
 use Rattle.sheet.proofs.values.all_name_bytes.Goals as goal
 
-pub returns-then-not-is-ascii-alphanumeric : goal.returns-then-not-is-ascii-alphanumeric
-returns-then-not-is-ascii-alphanumeric c = all_stops is_ascii_alphanumeric all_name_bytes (λ _ _. refl) c.args.part.now c.loop-b.b-index c.loop-b-test.true (sym c.if-not-is-ascii-alphanumeric.ensures.value) c.loop-b.invariant
+pub returns-then-not-is_ascii_alphanumeric : goal.returns-then-not-is_ascii_alphanumeric
+returns-then-not-is_ascii_alphanumeric c = all_stops is_ascii_alphanumeric all_name_bytes (λ _ _. refl) c.args.part.now c.loop-b.b-index c.loop-b-test.true (sym c.if-not-is_ascii_alphanumeric.ensures.value) c.loop-b.invariant
 
 pub loop-b-preserved : goal.loop-b-preserved
 loop-b-preserved c = all_again is_ascii_alphanumeric all_name_bytes (λ _ _. refl) c.args.part.now c.loop-b.b-index c.loop-b-test.true (sym c.if-not-is_ascii_alphanumeric.ensures.value) c.loop-b.invariant

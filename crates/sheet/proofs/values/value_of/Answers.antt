@@ -4,14 +4,14 @@ use Rattle.sheet.specs.Reading.{value_from}
 use Rattle.sheet.proofs.Walks.{digit_at, value_grows, seven_fit}
 use Rattle.sheet.proofs.values.value_of.Goals as goal
 
-pub overflow-mul-n : goal.overflow-mul-n
-overflow-mul-n c = omega (arith, seven_fit c.loop-b.n c.loop-b.b-index (omega (arith, c.requires.0)) c.loop-b.invariant.2)
+pub overflow_mul-n : goal.overflow_mul-n
+overflow_mul-n c = omega (arith, seven_fit c.loop-b.n c.loop-b.b-index (omega (arith, c.requires.0)) c.loop-b.invariant.2)
 
-pub overflow-sub-n : goal.overflow-sub-n
-overflow-sub-n c = (digit_at c.args.digits.now c.loop-b.b-index c.loop-b-test.true c.loop-b.invariant.1).0
+pub overflow_sub-n : goal.overflow_sub-n
+overflow_sub-n c = (digit_at c.args.digits.now c.loop-b.b-index c.loop-b-test.true c.loop-b.invariant.1).0
 
-pub overflow-add-n : goal.overflow-add-n
-overflow-add-n c =
+pub overflow_add-n : goal.overflow_add-n
+overflow_add-n c =
     let d = digit_at c.args.digits.now c.loop-b.b-index c.loop-b-test.true c.loop-b.invariant.1 in
     omega (arith, d.1, seven_fit c.loop-b.n c.loop-b.b-index (omega (arith, c.requires.0)) c.loop-b.invariant.2)
 

@@ -19,9 +19,9 @@ pub returns : goal.returns
 returns g c =
     let x = c.args.self.now in
     let xs = slots_of x in
-    let part = lent x c.line-count-n.result c.line-count-n.ensures in
+    let part = lent x c.line_count-n.result c.line_count-n.ensures in
     let kept = (standing x).kept in
-    let value : c.coming-release.result ≡ coming_of (view_of x) = c.coming-release.ensures x.clock (subst (AllKept x.clock) (sym part) kept) ∙ ap (λ ys. first_entry sooner (releases_ahead x.clock (tasks_of ys))) part in
+    let value : c.coming_release.result ≡ coming_of (view_of x) = c.coming_release.ensures x.clock (subst (AllKept x.clock) (sym part) kept) ∙ ap (λ ys. first_entry sooner (releases_ahead x.clock (tasks_of ys))) part in
     let timed : (i : ℕ) → i < length (tasks_of xs) → 0 < (get_or (tasks_of xs) i blank_task).line.period = λ i p.
     let in' : i < length xs = omega (arith, length_tasks xs) in
     subst (λ z. 0 < z.line.period) (sym (task_at_lem xs i blank_task in')) (some_period (slot_at xs i).task.line (kept i in').1.0) in

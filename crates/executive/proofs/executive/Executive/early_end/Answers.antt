@@ -9,11 +9,11 @@ use Rattle.executive.proofs.Outcomes.{still_running, end_stands, end_next, end_r
 use Rattle.executive.proofs.Takings.{lent, slots_of, standing, took, tracks_of}
 use Rattle.executive.proofs.executive.Executive.early_end.Goals as goal
 
-pub end-early-requires : goal.end-early-requires
-end-early-requires g c =
+pub end_early-requires : goal.end_early-requires
+end_early-requires g c =
     let x = c.args.self.now in
     let line = c.in-Some.line in
-    let part = lent x c.line-count-n.result c.line-count-n.ensures in
+    let part = lent x c.line_count-n.result c.line_count-n.ensures in
     let on : (0 < line) × (line ≤ length (slots_of x)) × (pending (get_or (slots_of x) (line - 1) blank_slot).task ≡ true) = still_running x line c.in-Some.ensures.ends in
     record {
       kept = (x.clock, x.early, subst (AllKept x.clock) (sym part) (standing x).kept);
@@ -21,12 +21,12 @@ end-early-requires g c =
       pending = ap (λ w. pending (get_or w (line - 1) blank_slot).task) part ∙ on.2;
     }
 
-pub invariant-of-self : goal.invariant-of-self
-invariant-of-self g c =
+pub invariant_of-self : goal.invariant_of-self
+invariant_of-self g c =
     let x = c.args.self.now in
     let after = c.in-Some.ensures in
-    let now = c.end-early.ensures in
-    (x.early, (∣ end_stands x c.line-count-n.result c.line-count-n.ensures c.end-early.new.slots _ c.end-early.auto.slots c.in-Some.line c.last-after.new.last after.ends after.last now.tasks now.kept ∣₁, tt))
+    let now = c.end_early.ensures in
+    (x.early, (∣ end_stands x c.line_count-n.result c.line_count-n.ensures c.end_early.new.slots _ c.end_early.auto.slots c.in-Some.line c.last_after.new.last after.ends after.last now.tasks now.kept ∣₁, tt))
 
 pub returns-in-Some : goal.returns-in-Some
 returns-in-Some g c =
@@ -34,8 +34,8 @@ returns-in-Some g c =
     let ah = g.R.Ranking.ahead x.ranking in
     let law = g.met.R.Ranking.lawful x.ranking in
     let after = c.in-Some.ensures in
-    let now = c.end-early.ensures in
-    took ah law x _ EarlyEnd _ (end_next x c.line-count-n.result c.line-count-n.ensures c.end-early.new.slots _ c.end-early.auto.slots c.in-Some.line c.last-after.new.last after.ends after.last now.tasks) refl refl
+    let now = c.end_early.ensures in
+    took ah law x _ EarlyEnd _ (end_next x c.line_count-n.result c.line_count-n.ensures c.end_early.new.slots _ c.end_early.auto.slots c.in-Some.line c.last_after.new.last after.ends after.last now.tasks) refl refl
 
 pub returns-in-None : goal.returns-in-None
 returns-in-None g c =

@@ -10,31 +10,31 @@ use Rattle.executive.proofs.Outcomes.{changed_line, rest_refused, rest_stands, r
 use Rattle.executive.proofs.Takings.{lent, standing, took}
 use Rattle.executive.proofs.executive.Executive.rest.Goals as goal
 
-pub returns-in-err-line : goal.returns-in-err-line
-returns-in-err-line g c =
+pub returns-in_err-line : goal.returns-in_err-line
+returns-in_err-line g c =
     let x = c.args.self.now in
     let ah = g.R.Ranking.ahead x.ranking in
     let law = g.met.R.Ranking.lawful x.ranking in
     let number = c.args.number in
-    let p = err_from_is_err_and c.from-residual.result c.from-residual.ensures.1 in
+    let p = err_from_is_err_and c.from_residual.result c.from_residual.ensures.1 in
     subst (λ r. Took ah x x (Rest number) (done_or r)) (sym p.1)
-    (took ah law x x (Rest number) (Refused p.0) (rest_refused x c.line-count-n.result c.line-count-n.ensures number p.0 (ap Err p.2 ∙ c.in-err-line.ensures)) refl refl)
+    (took ah law x x (Rest number) (Refused p.0) (rest_refused x c.line_count-n.result c.line_count-n.ensures number p.0 (ap Err p.2 ∙ c.in_err-line.ensures)) refl refl)
 
 pub put-to-rest-requires : goal.put-to-rest-requires
 put-to-rest-requires g c =
     let x = c.args.self.now in
-    let part = lent x c.line-count-n.result c.line-count-n.ensures in
-    let line = changed_line true c.args.number (tasks_of (mid_of 0 (c.line-count-n.result - 0) x.slots)) c.in-ok-line.line c.in-ok-line.ensures in
+    let part = lent x c.line_count-n.result c.line_count-n.ensures in
+    let line = changed_line true c.args.number (tasks_of (mid_of 0 (c.line_count-n.result - 0) x.slots)) c.in_ok-line.line c.in_ok-line.ensures in
     record {
       kept = (x.clock, x.early, subst (AllKept x.clock) (sym part) (standing x).kept);
-      line = (omega (arith, line.0, line.1), omega (arith, line.0, line.2, length_tasks (mid_of 0 (c.line-count-n.result - 0) x.slots)));
+      line = (omega (arith, line.0, line.1), omega (arith, line.0, line.2, length_tasks (mid_of 0 (c.line_count-n.result - 0) x.slots)));
     }
 
-pub invariant-of-self : goal.invariant-of-self
-invariant-of-self g c =
+pub invariant_of-self : goal.invariant_of-self
+invariant_of-self g c =
     let x = c.args.self.now in
     let now = c.put-to-rest.ensures in
-    (x.early, (∣ rest_stands x c.line-count-n.result c.line-count-n.ensures c.put-to-rest.new.slots _ c.put-to-rest.auto.slots c.args.number c.in-ok-line.line c.last-after.new.last c.in-ok-line.ensures c.last-after.ensures.last now.tasks now.kept ∣₁, tt))
+    (x.early, (∣ rest_stands x c.line_count-n.result c.line_count-n.ensures c.put-to-rest.new.slots _ c.put-to-rest.auto.slots c.args.number c.in_ok-line.line c.last_after.new.last c.in_ok-line.ensures c.last_after.ensures.last now.tasks now.kept ∣₁, tt))
 
 pub returns : goal.returns
 returns g c =
@@ -42,4 +42,4 @@ returns g c =
     let ah = g.R.Ranking.ahead x.ranking in
     let law = g.met.R.Ranking.lawful x.ranking in
     let now = c.put-to-rest.ensures in
-    took ah law x _ (Rest c.args.number) _ (rest_next x c.line-count-n.result c.line-count-n.ensures c.put-to-rest.new.slots _ c.put-to-rest.auto.slots c.args.number c.in-ok-line.line c.last-after.new.last c.in-ok-line.ensures c.last-after.ensures.last now.tasks) refl refl
+    took ah law x _ (Rest c.args.number) _ (rest_next x c.line_count-n.result c.line_count-n.ensures c.put-to-rest.new.slots _ c.put-to-rest.auto.slots c.args.number c.in_ok-line.line c.last_after.new.last c.in_ok-line.ensures c.last_after.ensures.last now.tasks) refl refl

@@ -14,7 +14,7 @@ use Rattle.executive.proofs.executive.Executive.worst.Goals as goal
 pub returns : goal.returns
 returns g c =
     let x = c.args.self.now in
-    let value : c.worst-line.result ≡ worst_of (view_of x) = c.worst-line.ensures ∙ ap (λ ks. first_entry worse (deviating 1 ks)) (lent_tracks x c.line-count-n.result c.line-count-n.ensures) in
+    let value : c.worst_line.result ≡ worst_of (view_of x) = c.worst_line.ensures ∙ ap (λ ks. first_entry worse (deviating 1 ks)) (lent_tracks x c.line_count-n.result c.line_count-n.ensures) in
     let ls = vec_items x.plan.lines in
     record {
       value = value;

@@ -11,11 +11,11 @@ use Rattle.executive.proofs.executive.batch.run.Goals as goal
 pub returns : goal.returns
 returns g c =
     let x = c.start-executive.result in
-    let y = c.take-each.new.self in
+    let y = c.take_each.new.self in
     let began = c.start-executive.ensures in
-    let took = c.take-each.ensures.took in
+    let took = c.take_each.ensures.took in
     let cs = c.args.calls.now in
-    let events = events_of cs c.take-each.new.replies in
+    let events = events_of cs c.take_each.new.replies in
     let lines = vec_items c.args.plan.lines in
     let ah = g.R.Ranking.ahead c.args.ranking in
     let ran : Ran ah lines c.args.start events (view_of y) =
@@ -24,7 +24,7 @@ returns g c =
     record {
       plan = took.plan ∙ began.plan;
       ranking = took.ranking ∙ began.ranking;
-      behind = same_behind c.take-each.result (length cs) c.take-each.new.replies c.args.replies.now (omega (arith, c.take-each.ensures.count)) c.take-each.ensures.behind;
+      behind = same_behind c.take_each.result (length cs) c.take_each.new.replies c.args.replies.now (omega (arith, c.take_each.ensures.count)) c.take_each.ensures.behind;
       ran = ran;
       promised = promise ah (g.met.R.Ranking.lawful c.args.ranking) lines (hyperperiod lines) c.args.start events (view_of y) (sound_plan c.args.plan) ran;
     }

@@ -5,8 +5,8 @@ use Rattle.executive.specs.Slots.{coming_at}
 use Rattle.executive.proofs.Arriving.{struck_keeps_line, struck_keeps_made}
 use Rattle.executive.proofs.slot.Slot.arrive.Goals as goal
 
-pub release-at-requires : goal.release-at-requires
-release-at-requires c =
+pub release_at-requires : goal.release_at-requires
+release_at-requires c =
     let x = c.args.self.now.task in
     let t = c.args.t in
     let y = c.strike-struck.new.task in
@@ -23,6 +23,6 @@ returns c =
     let is = c.strike-struck.ensures.after in
     record {
       value = c.strike-struck.ensures.value;
-      task = c.release-at.ensures.task ∙ ap (admitted t) is;
-      next = c.release-at.ensures.next ∙ ap (λ l. coming_at l (t + 1)) (struck_keeps_line t x y is);
+      task = c.release_at.ensures.task ∙ ap (admitted t) is;
+      next = c.release_at.ensures.next ∙ ap (λ l. coming_at l (t + 1)) (struck_keeps_line t x y is);
     }

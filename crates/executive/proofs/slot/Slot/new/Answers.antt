@@ -10,8 +10,8 @@ returns c =
     let t = c.args.start in
     let next : c.coming.result ≡ coming_at l t = c.coming.ensures in
     record {
-      task = c.new-task.ensures;
+      task = c.new_task.ensures;
       next = next;
       coming = subst (IsComing l t) (sym next) (coming_is l (some_period l c.requires.0) t);
-      kept = new_kept t c.args.number l c.new-task.result c.coming.result c.requires.0 c.new-task.ensures next;
+      kept = new_kept t c.args.number l c.new_task.result c.coming.result c.requires.0 c.new_task.ensures next;
     }

@@ -16,21 +16,21 @@ pub admit-requires : goal.admit-requires
 admit-requires c =
     let x = c.args.self.now.task in
     let t = c.args.t in
-    let same = c.move-on.ensures.task in
+    let same = c.move_on.ensures.task in
     let now = sym c.requires.1.0 ∙ c.if-self-t.false in
     (subst (λ y. arrives t y ≡ true) (sym same) (arrives_now t x c.requires.0 now (sym (ap (λ y. y.resting) same) ∙ c.if-not-self.true)), rw same (omega arith))
 
 pub returns-then-not-self : goal.returns-then-not-self
 returns-then-not-self c =
     record {
-      task = c.admit.ensures ∙ ap (admitted c.args.t) c.move-on.ensures.task;
-      next = moves_on c.args.t c.args.self.now.task.line c.args.self.now.next c.requires.0 c.requires.1.0 c.move-on.new.self.next c.if-self-t.false c.move-on.ensures.next;
+      task = c.admit.ensures ∙ ap (admitted c.args.t) c.move_on.ensures.task;
+      next = moves_on c.args.t c.args.self.now.task.line c.args.self.now.next c.requires.0 c.requires.1.0 c.move_on.new.self.next c.if-self-t.false c.move_on.ensures.next;
     }
 
 pub returns-else-not-self : goal.returns-else-not-self
 returns-else-not-self c =
-    let same = c.move-on.ensures.task in
+    let same = c.move_on.ensures.task in
     record {
       task = same ∙ rests_on c.args.t c.args.self.now.task (sym (ap (λ y. y.resting) same) ∙ c.if-not-self.false);
-      next = moves_on c.args.t c.args.self.now.task.line c.args.self.now.next c.requires.0 c.requires.1.0 c.move-on.new.self.next c.if-self-t.false c.move-on.ensures.next;
+      next = moves_on c.args.t c.args.self.now.task.line c.args.self.now.next c.requires.0 c.requires.1.0 c.move_on.new.self.next c.if-self-t.false c.move_on.ensures.next;
     }

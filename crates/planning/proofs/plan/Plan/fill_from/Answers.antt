@@ -6,13 +6,13 @@ use Rattle.planning.specs.Offsets.{Least}
 use Rattle.planning.proofs.plan.Plan.fill_from.Goals as goal
 
 pub store-requires : goal.store-requires
-store-requires c = record { few = omega (arith, c.requires.few, c.plan-lines.auto.lines); plan = c.in-ok-plan-lines.ensures.made.1 }
+store-requires c = record { few = omega (arith, c.requires.few, c.plan_lines.auto.lines); plan = c.in_ok-plan_lines.ensures.made.1 }
 
 pub returns : goal.returns
 returns c =
     let policy = c.args.policy in
     let plan = c.store.new.self in
-    let made = c.in-ok-plan-lines.ensures in
+    let made = c.in_ok-plan_lines.ensures in
     let stored = c.store.ensures in
     record {
       filled = made.made.0 ∙ ap (λ xs. Ok (task_set policy xs)) (sym stored.lines) ∙ ap (λ p. Ok (task_set p (vec_items plan.lines))) (sym stored.policy);
