@@ -6,6 +6,7 @@ use Rattle.model.specs.declared.job.Job.{Job}
 use Rattle.runs.specs.declared.call.Call.{Call}
 use Rattle.runs.specs.declared.call.Call.TheVariants.{Step}
 use Rattle.runs.specs.declared.call.Reply.{Reply}
+use Rattle.model.specs.declared.ranking.Ranking.{Ghosts}
 use Rattle.executive.specs.declared.executive.Executive.{Executive}
 use Rattle.runs.specs.Calls.{State, begun, next_of}
 use Rattle.runs.specs.Histories.{History, RanFrom, Ran, event}
@@ -50,7 +51,7 @@ module _ (ahead : Job → Job → Bool) where
   join [] k s t u e more = subst (λ x. RanFrom ahead x k u) (sym e) more
   join (e ∷ h) k s t u r more = (r.0, join h k (next_of ahead s e.call).0 t u r.1 more)
 
-  module _ {X : Type 0} (before after : Executive X) where
+  module _ {X : Type 0} {B : Ghosts X} (before after : Executive X B) where
     -- a run of the first calls, after the next one
     pub run_more : (cs : List Call) (rs : List Reply) (i : ℕ) (r : Reply) (s : State) → i < length cs → i < length rs
         → RanFrom ahead s (events_of (take i cs) (take i rs)) (view_of before) → Took ahead before after (get_or cs i Step) r

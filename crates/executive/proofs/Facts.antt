@@ -18,7 +18,7 @@ six_prop : {A B C D E F : Type 0} → IsProp A → IsProp B → IsProp C → IsP
 six_prop a b c d e f p q = λ i. (a p.0 q.0 i, b p.1 q.1 i, c p.2 q.2 i, d p.3 q.3 i, e p.4 q.4 i, f p.5 q.5 i)
 
 kept_prop : (t : ℕ) (xs : List Slot) → IsProp (AllKept t xs)
-kept_prop t xs = search (props, six_prop) depth 9
+kept_prop t xs = hlevel (props, six_prop)
 
 running_prop : (u : LastUnit) (xs : List Task) → IsProp (StillPending u xs)
 running_prop Idle xs = hlevel props
@@ -30,7 +30,7 @@ tracked_from_prop t l None k = hlevel props
 tracked_from_prop t l (Some a) k = hlevel props
 
 tracked_prop : (t : ℕ) (ls : List Line) (ks : List Track) → IsProp (AllTracked t ls ks)
-tracked_prop t ls ks = search (props, tracked_from_prop) depth 9
+tracked_prop t ls ks = hlevel (props, tracked_from_prop)
 
 module _ (ls : List Line) (t : ℕ) (xs : List Slot) (u : LastUnit) (ks : List Track) where
   lines_prop : IsProp (lines_of (tasks_of xs) ≡ ls)

@@ -1,5 +1,5 @@
 -- What each call makes of an executive, by what its parts did.
-use Rattle.std.proofs.Common.{◌≡◌, ℕ, ◌+◌, ◌-◌, ◌<◌, ◌≤◌, Bool, true, false, ltb, List, ◌++◌, length, get_or, take, Some, None, Ok, Err, vec_items, Result, sym, refl, ap, ◌∙◌, subst, arith}
+use Rattle.std.proofs.Common.{◌≡◌, ℕ, ◌+◌, ◌-◌, ◌<◌, ◌≤◌, Bool, true, false, cond, ltb, List, ◌++◌, length, get_or, take, Some, None, Ok, Err, vec_items, Result, sym, refl, ap, ◌∙◌, subst, arith}
 use borrow.Rule.Slice.PartMut.{mid_of}
 use Rattle.std.proofs.lemmas.Bool.{and_parts, cond_both, cond-true, cond-false, leb-true, le-ltb, lt-ltb}
 use Rattle.model.specs.Ranges.{is_regular}
@@ -14,6 +14,7 @@ use Rattle.runs.specs.declared.call.Reply.TheVariants.{Done, Refused}
 use Rattle.runs.specs.declared.call.Reply.TheVariants.{Unit as UnitGiven}
 use Rattle.runs.specs.declared.call.StepReport.{StepReport}
 use Rattle.runs.specs.declared.jitter.Track.{Track}
+use Rattle.model.specs.declared.ranking.Ranking.{Ghosts}
 use Rattle.executive.specs.declared.executive.Executive.{Executive}
 use Rattle.executive.specs.declared.slot.Slot.{Slot}
 use Rattle.runs.specs.declared.task.Task.{Task}
@@ -49,7 +50,7 @@ end_leaves (Ended l) e = refl
 end_leaves (Running l) e = let f : None ≡ Some l = e in let z : ◌≡◌ {A = ℕ} 0 1 = cc in absurd (omega arith)
 
 -- the job that an early end takes is pending
-pub still_running : {X : Type 0} (x : Executive X) (l : ℕ) → Some l ≡ ended_by x.last EarlyEnd → (0 < l) × (l ≤ length (slots_of x)) × (pending (get_or (slots_of x) (l - 1) blank_slot).task ≡ true)
+pub still_running : {X : Type 0} {B : Ghosts X} (x : Executive X B) (l : ℕ) → Some l ≡ ended_by x.last EarlyEnd → (0 < l) × (l ≤ length (slots_of x)) × (pending (get_or (slots_of x) (l - 1) blank_slot).task ≡ true)
 still_running x l e =
     let at : StillPending (Running l) (tasks_of (slots_of x)) = subst (λ u. StillPending u (tasks_of (slots_of x))) (ends_running x.last l e) (standing x).running in
     let in' : l - 1 < length (slots_of x) = omega (arith, at.0, at.1, length_tasks (slots_of x)) in
@@ -95,7 +96,7 @@ changed_line resting number xs line e =
     let so = may_change (NoSuchLine number) (RegularLine number) (RestAsItIs number) number (is_line (length xs) number) (is_regular x.line) (alike x.resting resting) line e in
     (so.0, leb-true 1 number (and_parts _ _ so.1).0, leb-true number (length xs) (and_parts _ _ so.1).1, so.2)
 
-module _ {X : Type 0} (x : Executive X) (n : ℕ) (is : n ≡ line_count x) (ys zs : List Slot) (long : length ys ≡ length (mid_of 0 (n - 0) x.slots)) where
+module _ {X : Type 0} {B : Ghosts X} (x : Executive X B) (n : ℕ) (is : n ≡ line_count x) (ys zs : List Slot) (long : length ys ≡ length (mid_of 0 (n - 0) x.slots)) where
   abbrev part : List Slot
   part = mid_of 0 (n - 0) x.slots
 
@@ -183,7 +184,7 @@ module _ {X : Type 0} (x : Executive X) (n : ℕ) (is : n ≡ line_count x) (ys 
         ∙ ap (λ s. (s, Done)) (leaves x.clock _ x.last _ (tracks_of x) tasks_resume refl)
 
 -- a refused rest or resume
-module _ {X : Type 0} (x : Executive X) (n : ℕ) (is : n ≡ line_count x) (number : ℕ) (e : Fault) where
+module _ {X : Type 0} {B : Ghosts X} (x : Executive X B) (n : ℕ) (is : n ≡ line_count x) (number : ℕ) (e : Fault) where
   pub rest_refused : Err e ≡ line_to_change true number (tasks_of (mid_of 0 (n - 0) x.slots)) → rest_of number (view_of x) ≡ (view_of x, Refused e)
   rest_refused found = rest_as number (view_of x) ∙ ap (λ q. by_change q (view_of x) (state_of x.clock (on_line number rested (tasks_of (slots_of x))) (aside_of number x.last) (tracks_of x), Done)) (sym (found ∙ ap (λ w. line_to_change true number (tasks_of w)) (lent x n is)))
 

@@ -8,6 +8,7 @@ use Rattle.model.specs.declared.job.Job.{Job}
 use Rattle.runs.specs.declared.call.Call.{Call}
 use Rattle.runs.specs.declared.call.Reply.{Reply}
 use Rattle.runs.specs.declared.jitter.Track.{Track}
+use Rattle.model.specs.declared.ranking.Ranking.{Ghosts}
 use Rattle.executive.specs.declared.executive.Executive.{Executive}
 use Rattle.executive.specs.declared.slot.Slot.{Slot}
 use Rattle.runs.specs.Calls.{begun, next_of}
@@ -22,7 +23,7 @@ use Rattle.runs.proofs.Promised.{promise}
 use Rattle.executive.proofs.SoundPlans.{sound_plan}
 use Rattle.executive.proofs.Places.{length_tasks, task_at_lem}
 
-module _ {X : Type 0} (x : Executive X) where
+module _ {X : Type 0} {B : Ghosts X} (x : Executive X B) where
   abbrev pub line_count : ℕ
   line_count = vec_len x.plan.lines
 
@@ -67,7 +68,7 @@ module _ {X : Type 0} (x : Executive X) where
     pub back_tracks : (ks zs : List Track) → length ks ≡ length (mid_of 0 (n - 0) x.tracks) → take line_count (ks ++ zs) ≡ ks
     back_tracks ks zs same = take_at ks zs line_count (same ∙ ap length lent_tracks ∙ track_count)
 
-module _ {X : Type 0} (ahead : Job → Job → Bool) (lawful : Lawful ahead) (before after : Executive X) (call : Call) (told : Reply) (next : next_of ahead (view_of before) call ≡ (view_of after, told)) (plan : after.plan ≡ before.plan) where
+module _ {X : Type 0} {B : Ghosts X} (ahead : Job → Job → Bool) (lawful : Lawful ahead) (before after : Executive X B) (call : Call) (told : Reply) (next : next_of ahead (view_of before) call ≡ (view_of after, told)) (plan : after.plan ≡ before.plan) where
   state : view_of after ≡ (next_of ahead (view_of before) call).0
   state = ap (λ o. o.0) (sym next)
 

@@ -8,6 +8,7 @@ use Rattle.runs.specs.declared.call.Call.{Call}
 use Rattle.runs.specs.declared.call.Reply.{Reply}
 use Rattle.runs.specs.Histories.{History, RanFrom, Ran, event}
 use Rattle.runs.specs.Promise.{Promised}
+use Rattle.model.specs.declared.ranking.Ranking.{Ghosts}
 use Rattle.executive.specs.declared.executive.Executive.{Executive}
 use Rattle.executive.specs.Views.{view_of}
 
@@ -19,7 +20,7 @@ events_of (c ∷ cs) (r ∷ rs) = event c r ∷ events_of cs rs
 
 -- Each call gets the reply that the rules say, and the last one leaves the state that they say; plan and
 -- ranking stay; the events go on every run that led here; and that longer run keeps the promise.
-pub record TookEach {X : Type 0} (ahead : Job → Job → Bool) (before after : Executive X) (events : History) : Type 0 where
+pub record TookEach {X : Type 0} {B : Ghosts X} (ahead : Job → Job → Bool) (before after : Executive X B) (events : History) : Type 0 where
   pub exact : RanFrom ahead (view_of before) events (view_of after)
   pub plan : after.plan ≡ before.plan
   pub ranking : after.ranking ≡ before.ranking

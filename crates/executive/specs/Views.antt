@@ -10,6 +10,7 @@ use Rattle.runs.specs.declared.call.Reply.{Reply}
 use Rattle.runs.specs.declared.call.Reply.TheVariants.{Done, Refused}
 use Rattle.runs.specs.declared.call.Reply.TheVariants.{Unit as UnitGiven}
 use Rattle.runs.specs.declared.call.StepReport.{StepReport}
+use Rattle.model.specs.declared.ranking.Ranking.{Ghosts}
 use Rattle.executive.specs.declared.executive.Executive.{Executive}
 use Rattle.runs.specs.Calls.{State, state_of, next_of}
 use Rattle.runs.specs.Histories.{History, Ran, event}
@@ -18,7 +19,7 @@ use Rattle.planning.specs.Hyperperiods.{hyperperiod}
 use Rattle.executive.specs.Slots.{tasks_of}
 
 -- its clock, the lines of its plan under way, where the last unit went, and the tracks of the lines
-abbrev pub view_of : {X : Type 0} → Executive X → State
+abbrev pub view_of : {X : Type 0} {B : Ghosts X} → Executive X B → State
 view_of x = state_of x.clock (tasks_of (take (vec_len x.plan.lines) x.slots)) x.last (take (vec_len x.plan.lines) x.tracks)
 
 -- what a step returned
@@ -33,7 +34,7 @@ done_or (Err e) = Refused e
 
 -- The call leaves the state and gets the reply that the rules say; plan and ranking stay; it is one event
 -- more of every run that led here; and that longer run keeps the promise.
-pub record Took {X : Type 0} (ahead : Job → Job → Bool) (before after : Executive X) (call : Call) (told : Reply) : Type 0 where
+pub record Took {X : Type 0} {B : Ghosts X} (ahead : Job → Job → Bool) (before after : Executive X B) (call : Call) (told : Reply) : Type 0 where
   pub state : view_of after ≡ (next_of ahead (view_of before) call).0
   pub reply : told ≡ (next_of ahead (view_of before) call).1
   pub plan : after.plan ≡ before.plan

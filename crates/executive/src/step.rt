@@ -76,7 +76,7 @@ fn first_pending(slots: &[Slot]) -> usize
 // The job at place i is pending and goes ahead of that at place `best`.
 fn overtakes<R: Ranking>(slots: &[Slot], ranking: &R, i: usize, best: usize) -> bool
     requires { (i < length slots.now) × (best < length slots.now) }
-    ensures { result ≡ (pending (slice_index_or slots.now i blank_slot).task && ahead ranking.now (job_of (slice_index_or slots.now i blank_slot).task) (job_of (slice_index_or slots.now best blank_slot).task)) }
+    ensures { result ≡ (pending (slice_index_or slots.now i blank_slot).task && R.ahead ranking.now (job_of (slice_index_or slots.now i blank_slot).task) (job_of (slice_index_or slots.now best blank_slot).task)) }
 {
     is_pending(&slots[i].task) && ranking.goes_ahead(&job(&slots[i].task), &job(&slots[best].task))
 }

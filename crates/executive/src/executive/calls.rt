@@ -1,7 +1,8 @@
 //! The calls of an executive. None of them allocates, and a refused call changes nothing.
 
 ghost use Rattle.std.specs.Prelude.{◌≡◌, ◌+◌, ◌^◌, ◌<◌, ◌≤◌, IfOk, vec_len};
-ghost use Rattle.runs.specs.Calls.{begun, last_of, clock_from};
+ghost use Rattle.runs.specs.Calls.{begun, last_of};
+ghost use Rattle.runs.specs.Histories.{start_of};
 ghost use Rattle.executive.specs.Changes.{counts_of as countsAt, counts_in};
 ghost use Rattle.executive.specs.Views.{view_of, unit_or, done_or, Took};
 ghost use Rattle.runs.specs.declared.call.Call.TheVariants.{Step, EarlyEnd, Rest, Resume};
@@ -22,7 +23,7 @@ const LAST_CLOCK: u64 = 1_000_000_000_000;
 
 // An instant above the last clock counts as the last clock.
 fn clock_from(start: u64) -> u64
-    ensures value { result ≡ clock_from start }
+    ensures value { result ≡ start_of start }
     ensures early { result ≤ 10 ^ 12 }
 {
     start.min(LAST_CLOCK)

@@ -14,7 +14,7 @@ pub between_marks-requires : goal.between_marks-requires
 between_marks-requires g c =
     let ls = c.args.lines.now in
     let few : length c.set_up.new.slots ≤ 24 = omega (arith, length_tasks c.set_up.new.slots, ap length c.set_up.ensures.tasks, length_new_tasks 1 ls, c.requires.1.0) in
-    (c.set_up.ensures.kept, (few, (sym c.set_up.auto.slots, omega (arith, c.largest-offset.ensures, largest_offset_le ls c.requires.0, c.requires.1.1))))
+    (c.set_up.ensures.kept, (few, (sym c.set_up.auto.slots, omega (arith, c.last_offset.ensures, largest_offset_le ls c.requires.0, c.requires.1.1))))
 
 pub returns-then-load-h : goal.returns-then-load-h
 returns-then-load-h g c =
@@ -33,7 +33,7 @@ returns g c =
     let light = le-ltb h (load_of h ls) (omega (arith, c.load.ensures, c.if-load-h.false)) in
     let value : c.between_marks.result ≡ rehearsal_of ah h ls =
     c.between_marks.ensures
-    ∙ ap (λ m. between_marks ah (m + h) h (tasks_of c.set_up.new.slots)) c.largest-offset.ensures
+    ∙ ap (λ m. between_marks ah (m + h) h (tasks_of c.set_up.new.slots)) c.last_offset.ensures
     ∙ ap (λ xs. between_marks ah (last_offset ls + h) h xs) c.set_up.ensures.tasks
     ∙ sym (cond-false (ltb h (load_of h ls)) _ _ light) in
     record { value = value; rules = only_rehearsed ah ls h c.between_marks.result value }

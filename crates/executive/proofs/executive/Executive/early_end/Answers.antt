@@ -26,7 +26,7 @@ invariant_of-self g c =
     let x = c.args.self.now in
     let after = c.in-Some.ensures in
     let now = c.end_early.ensures in
-    (x.early, (∣ end_stands x c.line_count-n.result c.line_count-n.ensures c.end_early.new.slots _ c.end_early.auto.slots c.in-Some.line c.last_after.new.last after.ends after.last now.tasks now.kept ∣₁, tt))
+    record { early = x.early; standing = ∣ end_stands x c.line_count-n.result c.line_count-n.ensures c.end_early.new.slots _ c.end_early.auto.slots c.in-Some.line c.last_after.new.last after.ends after.last now.tasks now.kept ∣₁ }
 
 pub returns-in-Some : goal.returns-in-Some
 returns-in-Some g c =

@@ -20,8 +20,8 @@ returns-in_err-line g c =
     subst (λ r. Took ah x x (Rest number) (done_or r)) (sym p.1)
     (took ah law x x (Rest number) (Refused p.0) (rest_refused x c.line_count-n.result c.line_count-n.ensures number p.0 (ap Err p.2 ∙ c.in_err-line.ensures)) refl refl)
 
-pub put-to-rest-requires : goal.put-to-rest-requires
-put-to-rest-requires g c =
+pub set_aside-requires : goal.set_aside-requires
+set_aside-requires g c =
     let x = c.args.self.now in
     let part = lent x c.line_count-n.result c.line_count-n.ensures in
     let line = changed_line true c.args.number (tasks_of (mid_of 0 (c.line_count-n.result - 0) x.slots)) c.in_ok-line.line c.in_ok-line.ensures in
@@ -33,13 +33,13 @@ put-to-rest-requires g c =
 pub invariant_of-self : goal.invariant_of-self
 invariant_of-self g c =
     let x = c.args.self.now in
-    let now = c.put-to-rest.ensures in
-    (x.early, (∣ rest_stands x c.line_count-n.result c.line_count-n.ensures c.put-to-rest.new.slots _ c.put-to-rest.auto.slots c.args.number c.in_ok-line.line c.last_after.new.last c.in_ok-line.ensures c.last_after.ensures.last now.tasks now.kept ∣₁, tt))
+    let now = c.set_aside.ensures in
+    record { early = x.early; standing = ∣ rest_stands x c.line_count-n.result c.line_count-n.ensures c.set_aside.new.slots _ c.set_aside.auto.slots c.args.number c.in_ok-line.line c.last_after.new.last c.in_ok-line.ensures c.last_after.ensures.last now.tasks now.kept ∣₁ }
 
 pub returns : goal.returns
 returns g c =
     let x = c.args.self.now in
     let ah = g.R.Ranking.ahead x.ranking in
     let law = g.met.R.Ranking.lawful x.ranking in
-    let now = c.put-to-rest.ensures in
-    took ah law x _ (Rest c.args.number) _ (rest_next x c.line_count-n.result c.line_count-n.ensures c.put-to-rest.new.slots _ c.put-to-rest.auto.slots c.args.number c.in_ok-line.line c.last_after.new.last c.in_ok-line.ensures c.last_after.ensures.last now.tasks) refl refl
+    let now = c.set_aside.ensures in
+    took ah law x _ (Rest c.args.number) _ (rest_next x c.line_count-n.result c.line_count-n.ensures c.set_aside.new.slots _ c.set_aside.auto.slots c.args.number c.in_ok-line.line c.last_after.new.last c.in_ok-line.ensures c.last_after.ensures.last now.tasks) refl refl

@@ -20,8 +20,8 @@ returns-in_err-line g c =
     subst (λ r. Took ah x x (Resume number) (done_or r)) (sym p.1)
     (took ah law x x (Resume number) (Refused p.0) (resume_refused x c.line_count-n.result c.line_count-n.ensures number p.0 (ap Err p.2 ∙ c.in_err-line.ensures)) refl refl)
 
-pub end-rest-requires : goal.end-rest-requires
-end-rest-requires g c =
+pub take_up-requires : goal.take_up-requires
+take_up-requires g c =
     let x = c.args.self.now in
     let part = lent x c.line_count-n.result c.line_count-n.ensures in
     let line = changed_line false c.args.number (tasks_of (mid_of 0 (c.line_count-n.result - 0) x.slots)) c.in_ok-line.line c.in_ok-line.ensures in
@@ -33,13 +33,13 @@ end-rest-requires g c =
 pub invariant_of-self : goal.invariant_of-self
 invariant_of-self g c =
     let x = c.args.self.now in
-    let now = c.end-rest.ensures in
-    (x.early, (∣ resume_stands x c.line_count-n.result c.line_count-n.ensures c.end-rest.new.slots _ c.end-rest.auto.slots c.args.number c.in_ok-line.line c.in_ok-line.ensures now.tasks now.kept ∣₁, tt))
+    let now = c.take_up.ensures in
+    record { early = x.early; standing = ∣ resume_stands x c.line_count-n.result c.line_count-n.ensures c.take_up.new.slots _ c.take_up.auto.slots c.args.number c.in_ok-line.line c.in_ok-line.ensures now.tasks now.kept ∣₁ }
 
 pub returns : goal.returns
 returns g c =
     let x = c.args.self.now in
     let ah = g.R.Ranking.ahead x.ranking in
     let law = g.met.R.Ranking.lawful x.ranking in
-    let now = c.end-rest.ensures in
-    took ah law x _ (Resume c.args.number) _ (resume_next x c.line_count-n.result c.line_count-n.ensures c.end-rest.new.slots _ c.end-rest.auto.slots c.args.number c.in_ok-line.line c.in_ok-line.ensures now.tasks) refl refl
+    let now = c.take_up.ensures in
+    took ah law x _ (Resume c.args.number) _ (resume_next x c.line_count-n.result c.line_count-n.ensures c.take_up.new.slots _ c.take_up.auto.slots c.args.number c.in_ok-line.line c.in_ok-line.ensures now.tasks) refl refl

@@ -10,7 +10,7 @@ use Rattle.executive.proofs.executive.Executive.start.Goals as goal
 pub invariant_of-result : goal.invariant_of-result
 invariant_of-result g c =
     let lines = c.args.plan.lines in
-    (c.clock_from-clock.ensures.early, (∣ start_stands (vec_items lines) (vec_len lines) c.set_up.new.slots _ lines.ok.0 c.args.plan.few (c.set_up.ensures.tasks ∙ ap (new_tasks 1) c.lines-lines.ensures) c.clock_from-clock.result c.set_up.ensures.kept ∣₁, tt))
+    record { early = c.clock_from-clock.ensures.early; standing = ∣ start_stands (vec_items lines) (vec_len lines) c.set_up.new.slots _ lines.ok.0 c.args.plan.few (c.set_up.ensures.tasks ∙ ap (new_tasks 1) c.lines-lines.ensures) c.clock_from-clock.result c.set_up.ensures.kept ∣₁ }
 
 pub returns : goal.returns
 returns g c =

@@ -43,14 +43,12 @@ invariant_of-self g c =
     let x = c.args.self.now in
     let ah = g.R.Ranking.ahead x.ranking in
     let now = c.step.ensures in
-    let noted = c.note_start.ensures in (
-      omega (arith, c.if-self-ge-LAST_CLOCK.false, c.note_unit.ensures.clock),
-      (
-        ∣ step_stands x c.line_count-n.result c.line_count-n.ensures c.step.new.slots _ c.step.auto.slots ah c.if-self-ge-LAST_CLOCK.false c.step.result.report c.note_unit.new.clock c.note_unit.new.last now.tasks now.report c.note_unit.ensures.clock c.note_unit.ensures.last
-            c.lines-lines.result.now c.lines-lines.ensures c.note_start.new.tracks _ c.note_start.auto.tracks now.kept noted.tracked ∣₁,
-        tt,
-      ),
-    )
+    let noted = c.note_start.ensures in
+    record {
+      early = omega (arith, c.if-self-ge-LAST_CLOCK.false, c.note_unit.ensures.clock);
+      standing = ∣ step_stands x c.line_count-n.result c.line_count-n.ensures c.step.new.slots _ c.step.auto.slots ah c.if-self-ge-LAST_CLOCK.false c.step.result.report c.note_unit.new.clock c.note_unit.new.last now.tasks now.report c.note_unit.ensures.clock c.note_unit.ensures.last
+          c.lines-lines.result.now c.lines-lines.ensures c.note_start.new.tracks _ c.note_start.auto.tracks now.kept noted.tracked ∣₁;
+    }
 
 pub returns : goal.returns
 returns g c =
