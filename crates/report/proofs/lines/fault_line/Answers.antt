@@ -7,13 +7,13 @@ use Rattle.report.proofs.lines.fault_line.Goals as goal
 pub row-requires : goal.row-requires
 row-requires c =
     let k = c.code.result in
-    subst (λ ns. Room c.args.page.now (row (codes "fault") ns)) (sym c.code-figures.ensures)
-    (fault_room c.args.page.now k.number k.layer k.first k.second c.requires (omega (arith, c.code.type-inv)) (omega (arith, c.code.type-inv)) (omega (arith, c.code.type-inv)) (omega (arith, c.code.type-inv)))
+    subst (λ ns. Room c.args.page.now (row (codes "fault") ns)) (sym c.code_figures.ensures)
+    (fault_room c.args.page.now k.number k.layer k.first k.second c.requires (omega (arith, c.code.type_inv)) (omega (arith, c.code.type_inv)) (omega (arith, c.code.type_inv)) (omega (arith, c.code.type_inv)))
 
 pub returns : goal.returns
 returns c =
     let k = c.code.result in
     record {
       wrote = search rules;
-      short = subst (λ x. length (code_line x) ≤ verdict_room) c.code.ensures (fault_le k.number k.layer k.first k.second (omega (arith, c.code.type-inv)) (omega (arith, c.code.type-inv)) (omega (arith, c.code.type-inv)) (omega (arith, c.code.type-inv)));
+      short = subst (λ x. length (code_line x) ≤ verdict_room) c.code.ensures (fault_le k.number k.layer k.first k.second (omega (arith, c.code.type_inv)) (omega (arith, c.code.type_inv)) (omega (arith, c.code.type_inv)) (omega (arith, c.code.type_inv)));
     }

@@ -3,11 +3,11 @@ use Rattle.report.specs.Printed.{plan_text, verdict_line}
 use Rattle.report.proofs.Pages.{wrote_both}
 use Rattle.report.proofs.lines.outcome_text.Goals as goal
 
-pub plan-text-requires : goal.plan-text-requires
-plan-text-requires c = omega (arith, c.requires)
+pub plan_text-requires : goal.plan_text-requires
+plan_text-requires c = omega (arith, c.requires)
 
-pub verdict-line-requires : goal.verdict-line-requires
-verdict-line-requires c = omega (arith, c.requires, c.plan-text.ensures.moved, c.plan-text.ensures.long)
+pub verdict_line-requires : goal.verdict_line-requires
+verdict_line-requires c = omega (arith, c.requires, c.plan_text.ensures.moved, c.plan_text.ensures.long)
 
 pub returns : goal.returns
 returns c =
@@ -15,6 +15,6 @@ returns c =
     let plan = plan_text c.args.hyperperiod c.args.lines.now in
     let verdict = verdict_line c.args.fault in
     record {
-      wrote = wrote_both p plan verdict (omega (arith, c.requires)) c.plan-text.new.page c.verdict-line.new.page c.plan-text.ensures c.verdict-line.ensures.wrote;
-      short = omega (arith, length-append plan verdict, c.verdict-line.ensures.short);
+      wrote = wrote_both p plan verdict (omega (arith, c.requires)) c.plan_text.new.page c.verdict_line.new.page c.plan_text.ensures c.verdict_line.ensures.wrote;
+      short = omega (arith, length-append plan verdict, c.verdict_line.ensures.short);
     }

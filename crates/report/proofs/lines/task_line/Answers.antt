@@ -20,7 +20,7 @@ pub row-requires : goal.row-requires
 row-requires c =
     let l = c.args.line.now in
     let q = c.number.new.self in
-    subst (Room q) (sym (is_behind l c.kind-word.result.now c.task-figures.result c.kind-word.ensures c.task-figures.ensures))
+    subst (Room q) (sym (is_behind l c.kind_word.result.now c.task_figures.result c.kind_word.ensures c.task_figures.ensures))
     (room_rest c.args.page.now (decimal c.args.number) (behind l) c.requires q c.number.ensures)
 
 pub returns : goal.returns
@@ -31,4 +31,4 @@ returns c =
     let l = c.args.line.now in
     let digits = decimal c.args.number in
     wrote_both p digits (behind l) (room_first p digits (behind l) c.requires) q r c.number.ensures
-    (subst (Wrote q r) (is_behind l c.kind-word.result.now c.task-figures.result c.kind-word.ensures c.task-figures.ensures) c.row.ensures)
+    (subst (Wrote q r) (is_behind l c.kind_word.result.now c.task_figures.result c.kind_word.ensures c.task_figures.ensures) c.row.ensures)

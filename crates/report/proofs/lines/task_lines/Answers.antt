@@ -20,8 +20,8 @@ module _ (ls : List Line) (i : ℕ) where
 pub loop-i-init : goal.loop-i-init
 loop-i-init c = half_start c.args.page.now (task_lines 1 c.args.lines.now) c.requires
 
-pub task-line-requires : goal.task-line-requires
-task-line-requires c =
+pub task_line-requires : goal.task_line-requires
+task_line-requires c =
     let ls = c.args.lines.now in
     let i = c.loop-i.i in
     half_room (this ls i) (behind ls i) (next ls i c.loop-i-test.true) c.loop-i.invariant
@@ -30,7 +30,7 @@ pub loop-i-preserved : goal.loop-i-preserved
 loop-i-preserved c =
     let ls = c.args.lines.now in
     let i = c.loop-i.i in
-    half_more (this ls i) (behind ls i) (next ls i c.loop-i-test.true) c.loop-i.invariant c.task-line.new.page c.task-line.ensures
+    half_more (this ls i) (behind ls i) (next ls i c.loop-i-test.true) c.loop-i.invariant c.task_line.new.page c.task_line.ensures
 
 pub returns : goal.returns
 returns c =

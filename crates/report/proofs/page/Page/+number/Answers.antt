@@ -36,7 +36,7 @@ returns t c =
     let p = c.args.self.now in
     let n = c.args.n in
     let after = c.put.new.self in
-    let last-put = subst (λ d. Wrote c.if-n-ge10.self after (d ∷ [])) c.last-digit.ensures c.put.ensures in
+    let last-put = subst (λ d. Wrote c.if-n-ge10.self after (d ∷ [])) c.last_digit.ensures c.put.ensures in
     elim c.if-n-ge10.branch [
       | then-n-ge10 w ↦ (several p n c.requires w.if-n-ge10.true c.ranges.n.fits w.number.new.self w.number.ensures).ends after (subst (λ q. Wrote q after (last n)) w.self-is last-put)
       | else-n-ge10 w ↦ (single p n c.requires w.if-n-ge10.false).ends after (subst (λ q. Wrote q after (last n)) w.self-is last-put)
