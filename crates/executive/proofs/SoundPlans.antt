@@ -2,7 +2,7 @@
 use Rattle.std.proofs.Common.{◌≡◌, ℕ, suc, ◌*◌, ◌/◌, ◌<◌, List, [], ◌∷◌, length, get_or, vec_items, sym, ◌∙◌, mul_comm, arith}
 use Prim.Native.Nat.{◌∣◌}
 use native.Mathlib.Nat.{mul-div_cancel'}
-use Rattle.std.specs.List.{AllByRecursion as All}
+use Rattle.std.specs.List.{AllByRecursion}
 use Rattle.std.proofs.ByRecursion.{All-get_or}
 use Rattle.model.specs.Ranges.{Ranged, blank}
 use Rattle.model.specs.declared.line.Line.{Line}
@@ -13,7 +13,7 @@ use Rattle.runs.specs.Promise.{SoundPlan}
 use Rattle.windows.proofs.Pairs.{never_meet}
 
 -- a fact of each place, as a fact of all
-all_from : (P : Line → Type 0) (ls : List Line) → ((i : ℕ) → i < length ls → P (get_or ls i blank)) → All P ls
+all_from : (P : Line → Type 0) (ls : List Line) → ((i : ℕ) → i < length ls → P (get_or ls i blank)) → AllByRecursion P ls
 all_from P [] each = tt
 all_from P (l ∷ ls) each = (each 0 (omega arith), all_from P ls (λ i below. each (suc i) (omega arith)))
 

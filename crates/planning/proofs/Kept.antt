@@ -3,7 +3,7 @@ use Rattle.std.proofs.Common.{◌≡◌, ℕ, ◌+◌, ◌-◌, ◌<◌, ◌≤�
 use Rattle.std.proofs.ByRecursion.{All-get_or}
 use Rattle.std.proofs.lemmas.List.{get_or-map, length-map}
 use Rattle.std.proofs.lemmas.Bool.{cases_Bool, cond_both}
-use Rattle.std.specs.List.{AllByRecursion as All}
+use Rattle.std.specs.List.{AllByRecursion}
 use Rattle.model.specs.Ranges.{is_regular, blank, Ranged, regulars}
 use Rattle.model.specs.declared.line.Line.{Line}
 use Rattle.model.specs.declared.policy.Policy.{Policy}
@@ -68,7 +68,7 @@ changed_planned policy m l x r same ordinary below loose = (
     deadline : (changed policy m x).deadline ≤ x.period
     deadline = cond_both (is_regular x) (regular_deadline policy m x) x.deadline (λ n. n ≤ x.period) (λ _. within_period policy m x length_was deadline_was) (λ _. deadline_was)
 
-module _ (policy : Policy) (m : Option ℕ) (ls q : List Line) (ranged : All Ranged ls) (p : Placing ls q) where
+module _ (policy : Policy) (m : Option ℕ) (ls q : List Line) (ranged : AllByRecursion Ranged ls) (p : Placing ls q) where
   -- what stands at place i
   read : (i : ℕ) → i < length ls → get_or (map (changed policy m) q) i blank ≡ changed policy m (get_or q i blank)
   read i h = get_or-map (changed policy m) q i blank blank (let e = p.whole in omega arith)

@@ -4,7 +4,7 @@ use Prim.Native.Nat.{◌∣◌}
 use native.Mathlib.Nat.{dvd_refl, dvd_trans, one-dvd, le_of_dvd}
 use Rattle.std.proofs.lemmas.List.{at_drop_more}
 use Rattle.std.proofs.lemmas.Bool.{cond-true, cond-false, le-ltb, ltb-true, ltb-false}
-use Rattle.std.specs.List.{AllByRecursion as All}
+use Rattle.std.specs.List.{AllByRecursion}
 use Rattle.model.specs.Ranges.{blank}
 use Rattle.model.specs.declared.line.Line.{Line}
 use Rattle.windows.specs.Euclid.{lcm_of}
@@ -14,7 +14,7 @@ use Rattle.planning.specs.Hyperperiods.{hyper_from, hyperperiod, passes_at, limi
 
 -- every period divides n
 abbrev Common : ℕ → List Line → Type 0
-Common n ls = All (λ l. l.period ∣ n) ls
+Common n ls = AllByRecursion (λ l. l.period ∣ n) ls
 
 goes_in : (h : ℕ) (ls : List Line) → h ∣ hyper_from h ls
 goes_in h [] = dvd_refl h
@@ -32,7 +32,7 @@ pub is_hyperperiod : (ls : List Line) → IsHyperperiod ls (hyperperiod ls)
 is_hyperperiod ls = record { common = common 1 ls; least = λ n c. least 1 ls n (one-dvd n) c }
 
 abbrev Positive : List Line → Type 0
-Positive ls = All (λ l. 0 < l.period) ls
+Positive ls = AllByRecursion (λ l. 0 < l.period) ls
 
 pub positive : (h : ℕ) (ls : List Line) → 0 < h → Positive ls → 0 < hyper_from h ls
 positive h [] p a = p

@@ -3,7 +3,7 @@
 use Rattle.std.proofs.Common.{◌≡◌, ℕ, zero, suc, ◌+◌, ◌-◌, ◌<◌, true, false, ◌⊎◌, List, [], ◌∷◌, ◌++◌, length, get_or, take, Some, None, sym, refl, ap, ◌∙◌, subst, inl, inr, ⊎_elim, arith}
 use Rattle.std.proofs.ByRecursion.{All-get_or}
 use Rattle.std.proofs.lemmas.Bool.{cases_Bool, both_ways}
-use Rattle.std.specs.List.{AllByRecursion as All}
+use Rattle.std.specs.List.{AllByRecursion}
 use Rattle.model.specs.Ranges.{is_regular, blank, Ranged}
 use Rattle.model.specs.declared.line.Line.{Line}
 use Rattle.windows.specs.Windows.{Meet, Periodic, apart_lines, at}
@@ -34,7 +34,7 @@ tail l m ls ms h = record {
 abbrev Clear : List Line → List Line → List Line → Type 0
 Clear placed ls r = (j : ℕ) → j < length ls → is_regular (get_or ls j blank) ≡ true → clear_of placed (get_or r j blank) ≡ true
 
-pub good_from_placing : (placed ls r : List Line) → All Ranged ls → Placing ls r → Clear placed ls r → Good placed ls r
+pub good_from_placing : (placed ls r : List Line) → AllByRecursion Ranged ls → Placing ls r → Clear placed ls r → Good placed ls r
 good_from_placing placed [] [] a h c = tt
 good_from_placing placed [] (m ∷ ms) a h c = let e = h.whole in omega arith
 good_from_placing placed (l ∷ ls) [] a h c = let e = h.whole in omega arith
@@ -49,7 +49,7 @@ good_from_placing placed (l ∷ ls) (m ∷ ms) a h c =
     )
 
 -- m in front of a placing that is clear of it
-in_front : (placed : List Line) (l m : Line) (ls ms : List Line) → Ranged l → All Ranged ls → Fits placed l m → Placing ls ms → Clear (placed ++ m ∷ []) ls ms → Placing (l ∷ ls) (m ∷ ms) × Clear placed (l ∷ ls) (m ∷ ms)
+in_front : (placed : List Line) (l m : Line) (ls ms : List Line) → Ranged l → AllByRecursion Ranged ls → Fits placed l m → Placing ls ms → Clear (placed ++ m ∷ []) ls ms → Placing (l ∷ ls) (m ∷ ms) × Clear placed (l ∷ ls) (m ∷ ms)
 in_front placed l m ls ms rl a f h c = (
   record {
     whole = let e = h.whole in omega arith;
@@ -73,7 +73,7 @@ in_front placed l m ls ms rl a f h c = (
         (apart_means m x (placed_periodic l m rl like) px).0 ((clear_pushed placed m x (c j lt' q)).1 (ap is_regular like ∙ p))
     apart (suc i) (suc j) order lt p q = h.clear i j (omega arith) (omega arith) p q
 
-pub placing_from_good : (placed ls r : List Line) → All Ranged ls → Good placed ls r → Placing ls r × Clear placed ls r
+pub placing_from_good : (placed ls r : List Line) → AllByRecursion Ranged ls → Good placed ls r → Placing ls r × Clear placed ls r
 placing_from_good placed [] [] a g = (
   record { whole = refl; same = λ i lt. absurd (omega arith); ordinary = λ i lt. absurd (omega arith); below = λ i lt. absurd (omega arith); clear = λ i j order lt. absurd (omega arith) },
   λ j lt. absurd (omega arith),
@@ -99,7 +99,7 @@ not_after (x ∷ xs) (y ∷ ys) b =
     (not_after xs ys same.1))
     b
 
-module _ (ls : List Line) (ranged : All Ranged ls) where
+module _ (ls : List Line) (ranged : AllByRecursion Ranged ls) where
   pub found_is_least : (q : List Line) → place [] ls ≡ Some q → Least ls q
   found_is_least q e =
       let f = found [] ls q e in

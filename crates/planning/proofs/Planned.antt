@@ -1,7 +1,7 @@
 -- What planning makes of ranged lines is a plan, with the first placing.
 use Rattle.std.proofs.Common.{◌≡◌, ◌<◌, ◌≤◌, List, Ok, sym, ap, subst, arith}
 use Rattle.std.proofs.ByRecursion.{All-from_get_or}
-use Rattle.std.specs.List.{AllByRecursion as All}
+use Rattle.std.specs.List.{AllByRecursion}
 use Rattle.model.specs.Ranges.{Ranged, AllRanged, blank, regulars}
 use Rattle.model.specs.TaskSets.{task_set}
 use Rattle.model.specs.declared.line.Line.{Line}
@@ -14,7 +14,7 @@ use Rattle.planning.specs.Deadlines.{least_ordinary, with_deadlines}
 use Rattle.planning.specs.Offsets.{Least}
 use Rattle.planning.specs.Plans.{AllPlanned, IsPlan, plan_of}
 
-pub all_ranged : (ls : List Line) → AllRanged ls → All Ranged ls
+pub all_ranged : (ls : List Line) → AllRanged ls → AllByRecursion Ranged ls
 all_ranged ls a = All-from_get_or Ranged ls blank a
 
 module _ (policy : Policy) (ls xs : List Line) (ranged : AllRanged ls) (made : plan_of (task_set policy ls) ≡ Ok (task_set policy xs)) where
@@ -39,5 +39,5 @@ module _ (policy : Policy) (ls xs : List Line) (ranged : AllRanged ls) (made : p
         short = omega arith;
       })
 
-pub planned_periods : (ls : List Line) → AllPlanned ls → All (λ l. 0 < l.period) ls
+pub planned_periods : (ls : List Line) → AllPlanned ls → AllByRecursion (λ l. 0 < l.period) ls
 planned_periods ls a = All-from_get_or (λ l. 0 < l.period) ls blank (λ i h. let r = (a i h).0 in omega (arith, r.1, r.2, r.3))

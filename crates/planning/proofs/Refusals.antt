@@ -1,6 +1,6 @@
 -- What is known of the steps of planning from what planning comes to.
 use Rattle.std.proofs.Common.{◌≡◌, ℕ, ◌⊎◌, List, [], Some, None, Ok, Err, Option, Result, refl, subst, inl, inr, ⊎_elim, arith}
-use Rattle.std.specs.List.{AllByRecursion as All}
+use Rattle.std.specs.List.{AllByRecursion}
 use Rattle.model.specs.Ranges.{Ranged}
 use Rattle.model.specs.TaskSets.{TaskSet, task_set}
 use Rattle.model.specs.declared.fault.Fault.{Fault}
@@ -68,7 +68,7 @@ module _ (policy : Policy) (ls : List Line) where
       let ok = d.1 in
       record { q = c.0; short = a.0; placed = c.1; loose = d.0; is = cc }
 
-  cause : All Ranged ls → (w : Fault) → plan_of (task_set policy ls) ≡ Err w → Cause policy ls w
+  cause : AllByRecursion Ranged ls → (w : Fault) → plan_of (task_set policy ls) ≡ Err w → Cause policy ls w
   unfolding last pair_fault third second
   cause ranged w e =
       ⊎_elim
@@ -106,5 +106,5 @@ says policy ls w (tight n e t) = (
   λ k is. let same : n ≡ k = cc in subst (TooShortAt policy ls) same t,
 )
 
-pub refused : (policy : Policy) (ls : List Line) → All Ranged ls → (w : Fault) → plan_of (task_set policy ls) ≡ Err w → Says policy ls w
+pub refused : (policy : Policy) (ls : List Line) → AllByRecursion Ranged ls → (w : Fault) → plan_of (task_set policy ls) ≡ Err w → Says policy ls w
 refused policy ls ranged w e = says policy ls w (cause policy ls ranged w e)

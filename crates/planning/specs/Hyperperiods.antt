@@ -6,7 +6,7 @@
 --   IsHyperperiod            what makes a number the hyperperiod
 use Rattle.std.specs.Prelude.{ℕ, ◌+◌, ◌-◌, ◌<◌, ◌≤◌, cond, List, [], ◌∷◌, length, take, Some, None, Option, nat_lt}
 use Rattle.std.specs.Int.{◌∣◌}
-use Rattle.std.specs.List.{AllByRecursion as All}
+use Rattle.std.specs.List.{AllByRecursion}
 use Rattle.model.specs.declared.line.Line.{Line}
 use Rattle.windows.specs.Euclid.{lcm_of}
 
@@ -36,5 +36,5 @@ pub record PassesFirst (ls : List Line) (n : ℕ) : Type 0 where
 
 -- Every period divides h, and h divides every number that every period divides.
 pub record IsHyperperiod (ls : List Line) (h : ℕ) : Type 0 where
-  pub common : All (λ l. l.period ∣ h) ls
-  pub least : (n : ℕ) → All (λ l. l.period ∣ n) ls → h ∣ n
+  pub common : AllByRecursion (λ l. l.period ∣ h) ls
+  pub least : (n : ℕ) → AllByRecursion (λ l. l.period ∣ n) ls → h ∣ n

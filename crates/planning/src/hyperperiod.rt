@@ -1,7 +1,7 @@
 //! The hyperperiod: the least common multiple of all periods, after which the windows come again.
 
 ghost use Rattle.std.specs.Prelude.{◌≡◌, ℕ, ◌<◌, ◌≤◌, length, is_ok, if◌then◌else◌, Some, None, Ok, Err, Decides, nat_lt};
-ghost use Rattle.std.specs.List.{AllByRecursion as All};
+ghost use Rattle.std.specs.List.{AllByRecursion};
 ghost use Rattle.model.specs.declared.fault.Fault.TheVariants.{HyperperiodTooLong};
 ghost use Rattle.windows.specs.Euclid.{lcm_of};
 ghost use Rattle.planning.specs.Hyperperiods.{hyperperiod as hyperperiodOf, passes_at, limit, IsHyperperiod, PassesFirst};
@@ -30,7 +30,7 @@ pub(crate) fn hyperperiod(lines: &[Line]) -> Result<u32, Fault>
     requires { length lines.now ≤ 24 }
     ensures value { result ≡ refuse (passes_at 1 1 lines.now) HyperperiodTooLong (Ok (hyperperiodOf lines.now)) }
     ensures least { IsHyperperiod lines.now (hyperperiodOf lines.now) }
-    ensures within { All (λ l. 0 < l.period) lines.now → Decides (is_ok result) (hyperperiodOf lines.now ≤ limit) }
+    ensures within { AllByRecursion (λ l. 0 < l.period) lines.now → Decides (is_ok result) (hyperperiodOf lines.now ≤ limit) }
     ensures first { (n : ℕ) → result ≡ Err (HyperperiodTooLong n) → PassesFirst lines.now n }
 {
     let mut h = 1;

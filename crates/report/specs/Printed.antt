@@ -13,7 +13,7 @@
 --                    what the rehearsal came to, and how long that can be
 --   outcome_text      what is printed of a plan and its rehearsal
 use Rattle.std.specs.Prelude.{ℕ, ◌+◌, ◌^◌, ◌<◌, List, [], ◌∷◌, ◌++◌, Some, None, codes, decimal, Option}
-use Rattle.std.specs.List.{flat_map, AllByRecursion as All}
+use Rattle.std.specs.List.{flat_map, AllByRecursion}
 use Rattle.model.specs.Faults.{code_of}
 use Rattle.model.specs.declared.fault.Fault.{Fault}
 use Rattle.model.specs.declared.fault.FaultCode.{FaultCode}
@@ -52,7 +52,7 @@ task_line n l = decimal n ++ row (kind_word l.kind) (task_figures l)
 
 -- Every figure of the line has at most five digits.
 abbrev pub Narrow : Line → Type 0
-Narrow l = All (λ n. n < 10 ^ 5) (task_figures l)
+Narrow l = AllByRecursion (λ n. n < 10 ^ 5) (task_figures l)
 
 -- The lines one below the other, numbered n, n + 1 and so on.
 abbrev pub task_lines : ℕ → List Line → List ℕ

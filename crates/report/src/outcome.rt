@@ -2,7 +2,7 @@
 //! Each call says how many bytes it wrote; the bytes behind them keep their values.
 
 ghost use Rattle.std.specs.Prelude.{◌≡◌, ◌≤◌, length};
-ghost use Rattle.std.specs.List.{AllByRecursion as All};
+ghost use Rattle.std.specs.List.{AllByRecursion};
 ghost use Rattle.report.specs.Pages.{written};
 ghost use Rattle.report.specs.Printed.{outcome_text, fault_line, Narrow};
 ghost use Rattle.report.specs.Reports.{buffer_least};
@@ -20,7 +20,7 @@ pub(crate) fn show_outcome(
 ) -> usize
     requires room { buffer_least ≤ length out.old }
     requires few { length lines.now ≤ 24 }
-    requires narrow { All Narrow lines.now }
+    requires narrow { AllByRecursion Narrow lines.now }
     ensures end { result ≡ length (outcome_text hyperperiod lines.now fault) }
     ensures fits { result ≤ buffer_least }
     ensures bytes { out.new ≡ written out.old 0 (outcome_text hyperperiod lines.now fault) }

@@ -1,6 +1,6 @@
 -- Under a lawful ranking the line that `first_of` finds goes ahead of every other pending line.
 use Rattle.std.proofs.Common.{◌≡◌, ℕ, suc, ◌+◌, ◌<◌, ◌≤◌, Bool, true, false, not, ◌&&◌, ◌⊎◌, List, [], ◌∷◌, ◌++◌, length, get_or, Some, None, Option, sym, refl, ap, ◌∙◌, subst, inl, inr, ⊎_elim, append_assoc, append-nil, one-add, arith}
-use Rattle.std.specs.List.{ContainsAt as Has, AllByRecursion as All}
+use Rattle.std.specs.List.{ContainsAt as Has, AllByRecursion}
 use Rattle.std.proofs.lemmas.Bool.{and_from, and_left, and_right, both_ways, cases_Bool, cond-true, cond-false}
 use Rattle.std.proofs.ByRecursion.{All-get_or, All-push, All-weaker, has_push, has_append_left}
 use Rattle.model.specs.declared.job.Job.{Job}
@@ -11,7 +11,7 @@ use Rattle.runs.specs.Steps.{better, first_from, first_of, number_of, Numbered, 
 use Rattle.runs.proofs.Serving.{numbered_at}
 
 -- the jobs of well-formed lines are those that the laws of a ranking speak of
-sounds : (n : ℕ) (xs : List Task) → 0 < n → n + length xs ≤ 25 → Numbered n xs → All Timed xs → All (λ x. Sound (job_of x)) xs
+sounds : (n : ℕ) (xs : List Task) → 0 < n → n + length xs ≤ 25 → Numbered n xs → AllByRecursion Timed xs → AllByRecursion (λ x. Sound (job_of x)) xs
 sounds n [] p q num timed = tt
 sounds n (x ∷ xs) p q num timed = ((omega (arith, num.0), omega (arith, num.0), timed.0.1), sounds (n + 1) xs (omega arith) (omega arith) num.1 timed.1)
 
@@ -22,11 +22,11 @@ module _ (ahead : Job → Job → Bool) (lawful : Lawful ahead) where
 
   -- the best of the lines ps, which are numbered below m
   abbrev Leads : ℕ → List Task → Option Task → Type 0
-  Leads m ps None = All (λ x. pending x ≡ false) ps
-  Leads m ps (Some b) = (pending b ≡ true) × (b.number < m) × Sound (job_of b) × Has ps b × All (Behind b) ps
+  Leads m ps None = AllByRecursion (λ x. pending x ≡ false) ps
+  Leads m ps (Some b) = (pending b ≡ true) × (b.number < m) × Sound (job_of b) × Has ps b × AllByRecursion (Behind b) ps
 
   -- one line more
-  leads_more : (m : ℕ) (ps : List Task) (best : Option Task) (x : Task) → x.number ≡ m → Sound (job_of x) → All (λ p. (p.number < m) × Sound (job_of p)) ps → Leads m ps best → Leads (m + 1) (ps ++ x ∷ []) (better ahead best x)
+  leads_more : (m : ℕ) (ps : List Task) (best : Option Task) (x : Task) → x.number ≡ m → Sound (job_of x) → AllByRecursion (λ p. (p.number < m) × Sound (job_of p)) ps → Leads m ps best → Leads (m + 1) (ps ++ x ∷ []) (better ahead best x)
   leads_more m ps None x e s below lead =
       ⊎_elim
       (λ (p : pending x ≡ true). subst (Leads (m + 1) (ps ++ x ∷ [])) (sym (cond-true (pending x) (Some x) None p)) (
@@ -39,7 +39,7 @@ module _ (ahead : Job → Job → Bool) (lawful : Lawful ahead) where
       (λ (p : pending x ≡ false). subst (Leads (m + 1) (ps ++ x ∷ [])) (sym (cond-false (pending x) (Some x) None p)) (All-push (λ y. pending y ≡ false) ps x lead p))
       (cases_Bool (pending x))
     where
-      both_all : (qs : List Task) → All (λ p. (p.number < m) × Sound (job_of p)) qs → All (λ y. pending y ≡ false) qs → All (Behind x) qs
+      both_all : (qs : List Task) → AllByRecursion (λ p. (p.number < m) × Sound (job_of p)) qs → AllByRecursion (λ y. pending y ≡ false) qs → AllByRecursion (Behind x) qs
       both_all [] h k = tt
       both_all (q ∷ qs) h k = (inr ((λ same. omega (arith, same, h.0.0)), h.0.1, λ p. absurd (both_ways (pending q) k.0 p)), both_all qs h.1 k.1)
   leads_more m ps (Some b) x e s below lead =
@@ -70,7 +70,7 @@ module _ (ahead : Job → Job → Bool) (lawful : Lawful ahead) where
         All-push (Behind b) ps x lead.4 (inr (other, s, loses)),
       )
 
-      overtaken : ahead (job_of x) (job_of b) ≡ true → (qs : List Task) → All (λ p. (p.number < m) × Sound (job_of p)) qs → All (Behind b) qs → All (Behind x) qs
+      overtaken : ahead (job_of x) (job_of b) ≡ true → (qs : List Task) → AllByRecursion (λ p. (p.number < m) × Sound (job_of p)) qs → AllByRecursion (Behind b) qs → AllByRecursion (Behind x) qs
       overtaken a [] h k = tt
       overtaken a (q ∷ qs) h k = (
         inr (
@@ -85,7 +85,7 @@ module _ (ahead : Job → Job → Bool) (lawful : Lawful ahead) where
         overtaken a qs h.1 k.1,
       )
 
-  leads_all : (ys ps : List Task) (m : ℕ) (best : Option Task) → Numbered m ys → All (λ y. Sound (job_of y)) ys → All (λ p. (p.number < m) × Sound (job_of p)) ps → Leads m ps best → (k : ℕ) × Leads k (ps ++ ys) (first_from ahead best ys)
+  leads_all : (ys ps : List Task) (m : ℕ) (best : Option Task) → Numbered m ys → AllByRecursion (λ y. Sound (job_of y)) ys → AllByRecursion (λ p. (p.number < m) × Sound (job_of p)) ps → Leads m ps best → (k : ℕ) × Leads k (ps ++ ys) (first_from ahead best ys)
   leads_all [] ps m best num sound below lead = (m, subst (λ zs. Leads m zs best) (sym (append-nil ps)) lead)
   leads_all (y ∷ ys) ps m best num sound below lead =
       subst (λ zs. (k : ℕ) × Leads k zs (first_from ahead (better ahead best y) ys)) (append_assoc ps (y ∷ []) ys)

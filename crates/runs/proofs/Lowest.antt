@@ -1,6 +1,6 @@
 -- The lowest line that is struck out: one more line looked at, and what it says of all lines.
 use Rattle.std.proofs.Common.{◌≡◌, ℕ, zero, suc, ◌+◌, ◌<◌, Bool, true, false, cond, eqb, ◌⊎◌, List, [], ◌∷◌, ◌++◌, length, get_or, take, count_by, sym, refl, ap, ◌∙◌, subst, ⊎_elim, zero-add, one-add, arith}
-use Rattle.std.specs.List.{AllByRecursion as All}
+use Rattle.std.specs.List.{AllByRecursion}
 use Rattle.std.proofs.lemmas.List.{take_more}
 use Rattle.std.proofs.ByRecursion.{All-get_or}
 use Rattle.std.proofs.lemmas.List.Sums.{sum_by-cons}
@@ -41,7 +41,7 @@ module _ (t : ℕ) (xs : List Task) (i : ℕ) (d : Task) (h : i < length xs) whe
       ∙ cond_both (eqb (count_by (due t) (take i xs)) 0) 0 (lowest_due t (take i xs)) (λ n. n ≡ lowest_due t (take i xs)) (λ z. sym (lowest_none t (take i xs) (eqb-true _ _ z))) (λ _. refl)
 
 -- no line is the lowest: none is struck out
-pub lowest_zero : (t n : ℕ) (xs : List Task) → 0 < n → Numbered n xs → lowest_due t xs ≡ 0 → All (λ x. due t x ≡ false) xs
+pub lowest_zero : (t n : ℕ) (xs : List Task) → 0 < n → Numbered n xs → lowest_due t xs ≡ 0 → AllByRecursion (λ x. due t x ≡ false) xs
 lowest_zero t n [] p num e = tt
 lowest_zero t n (x ∷ xs) p num e =
     ⊎_elim
@@ -87,6 +87,6 @@ lowest_struck_once t xs (suc i) (suc j) p q =
     apart)
     (cases_order i j)
 
-pub struck_not_clear : (t : ℕ) (xs : List Task) (l : ℕ) → LowestStruck t xs l → All (λ x. due t x ≡ false) xs → ⊥
+pub struck_not_clear : (t : ℕ) (xs : List Task) (l : ℕ) → LowestStruck t xs l → AllByRecursion (λ x. due t x ≡ false) xs → ⊥
 struck_not_clear t xs zero p clear = p
 struck_not_clear t xs (suc i) p clear = both_ways (due t (get_or xs i blank_task)) (All-get_or (λ x. due t x ≡ false) xs i blank_task p.0 clear) (p.1 blank_task)

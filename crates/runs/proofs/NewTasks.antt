@@ -1,6 +1,6 @@
 -- Lines before their first instant, by their places.
 use Rattle.std.proofs.Common.{◌≡◌, ℕ, zero, suc, ◌+◌, ◌<◌, ◌≤◌, List, [], ◌∷◌, length, get_or, sym, refl, ap, ◌∙◌, arith}
-use Rattle.std.specs.List.{AllByRecursion as All}
+use Rattle.std.specs.List.{AllByRecursion}
 use Rattle.std.proofs.lemmas.List.{same_lists, get_or_default}
 use Rattle.model.specs.declared.line.Line.{Line}
 use Rattle.model.specs.Ranges.{blank, AllRanged}
@@ -26,7 +26,7 @@ pub new_numbered : (n : ℕ) (ls : List Line) → Numbered n (new_tasks n ls)
 new_numbered n [] = tt
 new_numbered n (l ∷ ls) = (refl, new_numbered (n + 1) ls)
 
-new_timed : (n : ℕ) (ls : List Line) → AllRanged ls → All Timed (new_tasks n ls)
+new_timed : (n : ℕ) (ls : List Line) → AllRanged ls → AllByRecursion Timed (new_tasks n ls)
 new_timed n [] h = tt
 new_timed n (l ∷ ls) h =
     let first = h 0 (omega arith) in

@@ -1,6 +1,6 @@
 -- Every run's tracks are those of the starts that its replies show, and each start lies in its round.
 use Rattle.std.proofs.Common.{◌≡◌, ℕ, ◌+◌, ◌-◌, ◌/◌, ◌^◌, ◌<◌, ◌≤◌, Bool, true, false, cond, ◌&&◌, eqb, List, [], ◌∷◌, ◌++◌, length, get_or, Some, None, count_by, Option, sym, refl, ap, ◌∙◌, subst, append_assoc, append-nil, mod-lt, add-mul, div-add-mod', arith}
-use Rattle.std.specs.List.{AllByRecursion as All}
+use Rattle.std.specs.List.{AllByRecursion}
 use Rattle.std.proofs.ByRecursion.{All-append}
 use Rattle.std.proofs.lemmas.List.{length-append, length-map, get_or-map}
 use Rattle.std.proofs.lemmas.Bool.{and_parts, both_ways, cond_both, eqb-true}
@@ -50,7 +50,7 @@ in_round l t some from =
 record Noted (ls : List Line) (start : ℕ) (h : History) (s : State) : Type 0 where
   size : length s.tracks ≡ length ls
   track : (i : ℕ) → i < length ls → get_or s.tracks i no_track ≡ track_of (get_or ls i blank) (starts_of (get_or ls i blank) (i + 1) start h)
-  rounds : (i : ℕ) → i < length ls → All (InRound (get_or ls i blank)) (starts_of (get_or ls i blank) (i + 1) start h)
+  rounds : (i : ℕ) → i < length ls → AllByRecursion (InRound (get_or ls i blank)) (starts_of (get_or ls i blank) (i + 1) start h)
 
 module _ (ahead : Job → Job → Bool) (lawful : Lawful ahead) (ls : List Line) (m start : ℕ) (sound : SoundPlan ls m) where
   at_start : Noted ls (start_of start) [] (begun start ls)
@@ -69,7 +69,7 @@ module _ (ahead : Job → Job → Bool) (lawful : Lawful ahead) (ls : List Line)
     quiet e s' same none = record {
       size = ap length same ∙ now.size;
       track = λ i p. let l = get_or ls i blank in ap (λ ks. get_or ks i no_track) same ∙ now.track i p ∙ ap (track_of l) (sym (none_more l (i + 1)));
-      rounds = λ i p. let l = get_or ls i blank in subst (All (InRound l)) (sym (none_more l (i + 1))) (now.rounds i p);
+      rounds = λ i p. let l = get_or ls i blank in subst (AllByRecursion (InRound l)) (sym (none_more l (i + 1))) (now.rounds i p);
     }
       where
         none_more : (l : Line) (n : ℕ) → starts_of l n (start_of start) (push h e) ≡ starts_of l n (start_of start) h
@@ -108,9 +108,9 @@ module _ (ahead : Job → Job → Bool) (lawful : Lawful ahead) (ls : List Line)
         track = step_track;
         rounds = λ i p.
             let l = get_or ls i blank in
-            subst (All (InRound l)) (sym (longer l (i + 1)))
+            subst (AllByRecursion (InRound l)) (sym (longer l (i + 1)))
             (All-append (InRound l) (starts_of l (i + 1) (start_of start) h) _ (now.rounds i p)
-            (cond_both (told.began && eqb told.line (i + 1)) _ _ (All (InRound l)) (λ e. (new i p (and_parts told.began _ e).1, tt)) (λ _. tt)));
+            (cond_both (told.began && eqb told.line (i + 1)) _ _ (AllByRecursion (InRound l)) (λ e. (new i p (and_parts told.began _ e).1, tt)) (λ _. tt)));
       }
         where
           new : (i : ℕ) → i < length ls → eqb told.line (i + 1) ≡ true → InRound (get_or ls i blank) (start_at (get_or ls i blank) s.clock)

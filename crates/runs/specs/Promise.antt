@@ -9,7 +9,7 @@
 --   Figured      the jitter figures are those of the starts
 --   Promise      all of it
 use Rattle.std.specs.Prelude.{◌≡◌, ℕ, ◌+◌, ◌-◌, ◌*◌, ◌<◌, ◌≤◌, Bool, true, false, cond, ◌⊎◌, List, ◌∷◌, ◌++◌, length, get_or, Ok, ◌==◌, slice_index_or}
-use Rattle.std.specs.List.{AllByRecursion as All}
+use Rattle.std.specs.List.{AllByRecursion}
 use Rattle.model.specs.Ranges.{is_regular, Ranged, blank}
 use Rattle.model.specs.declared.job.Job.{Job}
 use Rattle.model.specs.declared.line.Line.{Line}
@@ -81,7 +81,7 @@ pub record Tallied (ls : List Line) (start : ℕ) (h : History) (s : State) : Ty
 -- The figures of line i + 1 are those of the starts that the replies show, and each start lies in its round.
 pub record Figured (ls : List Line) (start : ℕ) (h : History) (s : State) : Type 0 where
   pub figures : (i : ℕ) → i < length ls → track_figures (slice_index_or ls i blank) (slice_index_or s.tracks i no_track) ≡ figures_of (slice_index_or ls i blank) (starts_of (slice_index_or ls i blank) (i + 1) start h)
-  pub rounds : (i : ℕ) → i < length ls → All (InRound (slice_index_or ls i blank)) (starts_of (slice_index_or ls i blank) (i + 1) start h)
+  pub rounds : (i : ℕ) → i < length ls → AllByRecursion (InRound (slice_index_or ls i blank)) (starts_of (slice_index_or ls i blank) (i + 1) start h)
 
 -- `m` is the hyperperiod of the plan's lines.
 pub record Promised (ahead : Job → Job → Bool) (ls : List Line) (m start : ℕ) (h : History) (s : State) : Type 0 where

@@ -8,7 +8,7 @@
 --   Rehearsed        the results that the rules permit
 --   OnlyRehearsed    the rules permit this result, and no other
 use Rattle.std.specs.Prelude.{◌≡◌, ℕ, zero, suc, ◌+◌, ◌<◌, ◌≤◌, Bool, true, false, List, map, length, Ok, Err, Result, slice_index_or}
-use Rattle.std.specs.List.{AllByRecursion as All}
+use Rattle.std.specs.List.{AllByRecursion}
 use Rattle.model.specs.declared.fault.Fault.{Fault}
 use Rattle.model.specs.declared.fault.Fault.TheVariants.{Overload, Missed, Unsettled}
 use Rattle.model.specs.declared.job.Job.{Job}
@@ -23,7 +23,7 @@ state_at ahead ls zero = new_tasks 1 ls
 state_at ahead ls (suc t) = stepped ahead t (state_at ahead ls t)
 
 abbrev pub NoneStruckBelow : (Job → Job → Bool) → List Line → ℕ → Type 0
-NoneStruckBelow ahead ls n = (t : ℕ) → t < n → All (λ x. due t x ≡ false) (state_at ahead ls t)
+NoneStruckBelow ahead ls n = (t : ℕ) → t < n → AllByRecursion (λ x. due t x ≡ false) (state_at ahead ls t)
 
 -- line i + 1 stands at place i
 abbrev pub LowestStruck : ℕ → List Task → ℕ → Type 0

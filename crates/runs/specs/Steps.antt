@@ -8,7 +8,7 @@
 --   First       a line whose pending job goes ahead of every other pending job
 --   ToFirst     the unit goes to that line, or to none if no line is pending
 use Rattle.std.specs.Prelude.{◌≡◌, ℕ, zero, suc, ◌+◌, ◌^◌, ◌<◌, ◌≤◌, Bool, true, false, cond, ◌&&◌, List, [], ◌∷◌, map, length, Some, None, count_by, Option, ◌==◌, ◌≢◌, slice_index_or}
-use Rattle.std.specs.List.{AllByRecursion as All}
+use Rattle.std.specs.List.{AllByRecursion}
 use Rattle.model.specs.declared.job.Job.{Job}
 use Rattle.runs.specs.declared.task.Task.{Task}
 use Rattle.runs.specs.declared.call.StepReport.{StepReport}
@@ -58,7 +58,7 @@ abbrev pub Timed : Task → Type 0
 Timed x = (0 < x.line.period) × (x.release < 10 ^ 12)
 
 abbrev pub WellFormed : List Task → Type 0
-WellFormed xs = Numbered 1 xs × (length xs ≤ 24) × All Timed xs
+WellFormed xs = Numbered 1 xs × (length xs ≤ 24) × AllByRecursion Timed xs
 
 -- The line at place i is pending, and its job goes ahead of that of every other pending line.
 abbrev pub First : (Job → Job → Bool) → List Task → ℕ → Type 0
@@ -67,5 +67,5 @@ First ahead xs i = (i < length xs) × ((d : Task) → pending (slice_index_or xs
 
 -- Line n, which stands at place n - 1, is the first; n is 0 only if no line is pending.
 abbrev pub ToFirst : (Job → Job → Bool) → List Task → ℕ → Type 0
-ToFirst ahead xs zero = All (λ x. pending x ≡ false) xs
+ToFirst ahead xs zero = AllByRecursion (λ x. pending x ≡ false) xs
 ToFirst ahead xs (suc i) = First ahead xs i

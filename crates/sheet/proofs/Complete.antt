@@ -2,7 +2,7 @@
 use Rattle.std.proofs.Common.{◌≡◌, ℕ, ◌+◌, ◌<◌, ◌≤◌, Bool, true, false, cond, ◌&&◌, ltb, leb, List, [], ◌∷◌, ◌++◌, length, drop, Some, Ok, decimal, sym, refl, ap, ◌∙◌, inl, inr, append_assoc, append-nil, arith, length-append}
 use Rattle.std.specs.Int.{is_in_range}
 use Rattle.std.specs.Char.{is_ascii_alphanumeric, is_ascii_digit}
-use Rattle.std.specs.List.{AllByRecursion as All}
+use Rattle.std.specs.List.{AllByRecursion}
 use Rattle.std.specs.Str.{all_ascii_digits}
 use Rattle.std.proofs.lemmas.Fmt.{digits_decimal}
 use Rattle.std.proofs.ByRecursion.{All-append, All-weaker}
@@ -25,7 +25,7 @@ use Rattle.sheet.proofs.Only.{regulars_push}
 
 -- bytes that neither end a line nor cut it
 abbrev Bare : List ℕ → Type 0
-Bare bs = All (λ b. 32 < b) bs
+Bare bs = AllByRecursion (λ b. 32 < b) bs
 
 bare_letter : (k : Kind) → Bare (letter k ∷ [])
 bare_letter Ordinary = (omega arith, tt)
@@ -48,20 +48,20 @@ bare_digits (b ∷ bs) e =
 bare_decimal : (n : ℕ) → n ≤ 60000 → Bare (decimal n)
 bare_decimal n few = bare_digits (decimal n) (digits_decimal own n (omega arith))
 
-bare_words : (t : NamedTask) → Sound t → All Bare (task_words t)
+bare_words : (t : NamedTask) → Sound t → AllByRecursion Bare (task_words t)
 bare_words t s =
     let r = s.1 in
     let name = and_parts (is_in_range 1 12 (length t.name)) (all_name_bytes t.name) s.0 in
     (bare_letter t.line.kind, (bare_name t.name name.1, (bare_decimal t.line.offset r.0, (bare_decimal t.line.length (omega arith), (bare_decimal t.line.deadline (omega arith), (bare_decimal t.line.period r.4, tt))))))
 
-spaced_unended : (ws : List (List ℕ)) → All Bare ws → All (λ b. b ≡ 10 → ⊥) (spaced ws)
+spaced_unended : (ws : List (List ℕ)) → AllByRecursion Bare ws → AllByRecursion (λ b. b ≡ 10 → ⊥) (spaced ws)
 spaced_unended [] h = tt
 spaced_unended (w ∷ []) h = All-weaker (λ b. 32 < b) (λ b. b ≡ 10 → ⊥) (λ b l e. omega arith) w h.0
 spaced_unended (w ∷ v ∷ ws) h =
     All-append (λ b. b ≡ 10 → ⊥) w (32 ∷ spaced (v ∷ ws)) (All-weaker (λ b. 32 < b) (λ b. b ≡ 10 → ⊥) (λ b l e. omega arith) w h.0) (λ e. omega arith, spaced_unended (v ∷ ws) h.1)
 
-uncut : (ws : List (List ℕ)) → All Bare ws → All (All (λ b. b ≡ 32 → ⊥)) ws
-uncut ws h = All-weaker Bare (All (λ b. b ≡ 32 → ⊥)) (λ w l. All-weaker (λ b. 32 < b) (λ b. b ≡ 32 → ⊥) (λ b l e. omega arith) w l) ws h
+uncut : (ws : List (List ℕ)) → AllByRecursion Bare ws → AllByRecursion (AllByRecursion (λ b. b ≡ 32 → ⊥)) ws
+uncut ws h = All-weaker Bare (AllByRecursion (λ b. b ≡ 32 → ⊥)) (λ w l. All-weaker (λ b. 32 < b) (λ b. b ≡ 32 → ⊥) (λ b l e. omega arith) w l) ws h
 
 -- each word is read back
 kind_letter : (k : Kind) → kind_of (letter k ∷ []) ≡ Some k
@@ -97,7 +97,7 @@ lines_more t ts s = ap lines_of (append_assoc (spaced (task_words t)) (10 ∷ []
 not_full : (n m : ℕ) (regular : Bool) → n + (cond regular 1 0 + m) ≤ 8 → (leb 8 n && regular) ≡ false
 not_full n m regular h = grind (arith, nat_tests)
 
-tasks_read : (done : List Line) (ts : List NamedTask) → All Sound ts → length done + length ts ≤ 24 → regulars done + regulars (lines_of_tasks ts) ≤ 8 → read_tasks done (lines_of (tasks_text ts)) ≡ Ok (done ++ lines_of_tasks ts)
+tasks_read : (done : List Line) (ts : List NamedTask) → AllByRecursion Sound ts → length done + length ts ≤ 24 → regulars done + regulars (lines_of_tasks ts) ≤ 8 → read_tasks done (lines_of (tasks_text ts)) ≡ Ok (done ++ lines_of_tasks ts)
 tasks_read done [] s few limited = ap Ok (sym (append-nil done))
 tasks_read done (t ∷ ts) s few limited =
     let l = t.line in
@@ -118,7 +118,7 @@ policy_read : (p : Policy) (ls : List (List ℕ)) → read_policy (policy_word p
 policy_read Dm ls = refl
 policy_read Ed ls = refl
 
-policy_unended : (p : Policy) → All (λ b. b ≡ 10 → ⊥) (policy_word p)
+policy_unended : (p : Policy) → AllByRecursion (λ b. b ≡ 10 → ⊥) (policy_word p)
 policy_unended Dm = (λ e. omega arith, (λ e. omega arith, tt))
 policy_unended Ed = (λ e. omega arith, (λ e. omega arith, tt))
 

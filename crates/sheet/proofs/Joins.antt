@@ -1,6 +1,6 @@
 -- Cutting undoes joining, and joining undoes cutting: lines by the byte 10, fields by a space.
 use Rattle.std.proofs.Common.{◌≡◌, ℕ, suc, ◌+◌, ◌-◌, ◌<◌, true, cond, eqb, ◌⊎◌, List, [], ◌∷◌, ◌++◌, length, get_or, sym, refl, ap, ◌∙◌, inl, inr, ⊎_elim, arith, length-append}
-use Rattle.std.specs.List.{AllByRecursion as All}
+use Rattle.std.specs.List.{AllByRecursion}
 use Rattle.std.proofs.lemmas.Bool.{cond-true, cond-false, cond_both, eq-eqb, ne_eqb, eqb-true, eqb-false}
 use Rattle.sheet.specs.Cutting.{glue, lines_of, fields_of}
 use Rattle.sheet.specs.Grammar.{spaced}
@@ -13,16 +13,16 @@ ended [] = []
 ended (l ∷ ls) = l ++ 10 ∷ ended ls
 
 -- a part without the separator is cut off whole
-pub cut_joined : (sep : ℕ) (cut : List ℕ → List (List ℕ)) → CutsAt sep cut → (l rest : List ℕ) → All (λ b. b ≡ sep → ⊥) l → cut (l ++ sep ∷ rest) ≡ l ∷ cut rest
+pub cut_joined : (sep : ℕ) (cut : List ℕ → List (List ℕ)) → CutsAt sep cut → (l rest : List ℕ) → AllByRecursion (λ b. b ≡ sep → ⊥) l → cut (l ++ sep ∷ rest) ≡ l ∷ cut rest
 cut_joined sep cut step [] rest none = step sep rest ∙ cond-true (eqb sep sep) _ _ (eq-eqb sep sep refl)
 cut_joined sep cut step (b ∷ bs) rest none =
     step b (bs ++ sep ∷ rest) ∙ cond-false (eqb b sep) _ _ (ne_eqb b sep none.0) ∙ ap (glue b) (cut_joined sep cut step bs rest none.1)
 
-pub fields_alone : (l : List ℕ) → All (λ b. b ≡ 32 → ⊥) l → fields_of l ≡ l ∷ []
+pub fields_alone : (l : List ℕ) → AllByRecursion (λ b. b ≡ 32 → ⊥) l → fields_of l ≡ l ∷ []
 fields_alone [] none = refl
 fields_alone (b ∷ bs) none = cond-false (eqb b 32) _ _ (ne_eqb b 32 none.0) ∙ ap (glue b) (fields_alone bs none.1)
 
-pub fields_spaced : (w : List ℕ) (ws : List (List ℕ)) → All (All (λ b. b ≡ 32 → ⊥)) (w ∷ ws) → fields_of (spaced (w ∷ ws)) ≡ w ∷ ws
+pub fields_spaced : (w : List ℕ) (ws : List (List ℕ)) → AllByRecursion (AllByRecursion (λ b. b ≡ 32 → ⊥)) (w ∷ ws) → fields_of (spaced (w ∷ ws)) ≡ w ∷ ws
 fields_spaced w [] none = fields_alone w none.0
 fields_spaced w (v ∷ ws) none = cut_joined 32 fields_of (λ _ _. refl) w (spaced (v ∷ ws)) none.0 ∙ ap (λ ps. w ∷ ps) (fields_spaced v ws none.1)
 

@@ -1,6 +1,6 @@
 -- What is read is a text that the grammar admits.
 use Rattle.std.proofs.Common.{◌≡◌, ℕ, ◌+◌, ◌≤◌, Bool, true, false, cond, ◌&&◌, eqb, ltb, leb, ◌⊎◌, List, [], ◌∷◌, ◌++◌, length, drop, Some, None, Ok, sym, refl, ap, ◌∙◌, subst, inr, ⊎_elim, append_assoc, append-nil, arith, length-append}
-use Rattle.std.specs.List.{AllByRecursion as All}
+use Rattle.std.specs.List.{AllByRecursion}
 use Rattle.std.proofs.lemmas.List.{length-map}
 use Rattle.std.proofs.lemmas.Bool.{and_parts, eqb-true, ltb-true, ltb-false}
 use Rattle.std.proofs.lemmas.Bool.Decides.{nat_tests}
@@ -35,7 +35,7 @@ pub record Tasks (done : List Line) (texts : List (List ℕ)) (ls : List Line) :
   pub tasks : List NamedTask
   pub text : ended texts ≡ tasks_text tasks
   pub lines : done ++ lines_of_tasks tasks ≡ ls
-  pub sound : All Sound tasks
+  pub sound : AllByRecursion Sound tasks
   pub few : length ls ≤ 24
   pub limited : regulars ls ≤ 8
 

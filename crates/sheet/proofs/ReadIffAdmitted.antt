@@ -1,6 +1,6 @@
 -- A text is read if and only if the grammar admits it, and then as what it says; what is read keeps the limits.
 use Rattle.std.proofs.Common.{◌≡◌, ℕ, ◌≤◌, true, false, List, length, Ok, Err, Decides, refl, subst, arith}
-use Rattle.std.specs.List.{AllByRecursion as All}
+use Rattle.std.specs.List.{AllByRecursion}
 use Rattle.std.proofs.ByRecursion.{All-get_or, All-map, All-weaker}
 use Rattle.std.proofs.lemmas.List.{length-map}
 use Rattle.model.specs.declared.fault.Fault.{Fault}
@@ -29,6 +29,6 @@ pub limits : (text : List ℕ) (p : Policy) (ls : List Line) → read_sheet text
 limits text p ls e =
     let o = only text (task_set p ls) e in
     let ts = o.0 in
-    let ranged : All Ranged (lines_of_tasks ts) = All-map Ranged (λ t. t.line) ts (All-weaker Sound (λ t. Ranged t.line) (λ t s. s.1) ts o.1.sound) in
+    let ranged : AllByRecursion Ranged (lines_of_tasks ts) = All-map Ranged (λ t. t.line) ts (All-weaker Sound (λ t. Ranged t.line) (λ t s. s.1) ts o.1.sound) in
     subst (λ xs. (length xs ≤ 24) × AllRanged xs × (regulars xs ≤ 8)) o.2
     (omega (arith, length-map ts (λ t. t.line), o.1.few), λ i h. All-get_or Ranged (lines_of_tasks ts) i blank h ranged, o.1.limited)

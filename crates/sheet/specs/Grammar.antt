@@ -9,7 +9,7 @@
 --   Admitted                    a text is a sheet
 --   Says                        what a sheet says
 use Rattle.std.specs.Prelude.{◌≡◌, ℕ, ◌≤◌, true, List, [], ◌∷◌, ◌++◌, map, length, decimal}
-use Rattle.std.specs.List.{AllByRecursion as All}
+use Rattle.std.specs.List.{AllByRecursion}
 use Rattle.model.specs.declared.kind.Kind.{Kind}
 use Rattle.model.specs.declared.kind.Kind.TheVariants.{Ordinary, Regular}
 use Rattle.model.specs.declared.line.Line.{Line}
@@ -71,7 +71,7 @@ pub record Admits (text : List ℕ) (p : Policy) (ts : List NamedTask) : Type 0 
   pub short : length text ≤ 4096
   pub few : length ts ≤ 24
   pub limited : regulars (lines_of_tasks ts) ≤ 8
-  pub sound : All Sound ts
+  pub sound : AllByRecursion Sound ts
 
 -- Some policy and tasks have this text.
 abbrev pub Admitted : List ℕ → Type 0

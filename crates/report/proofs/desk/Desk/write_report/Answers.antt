@@ -1,5 +1,5 @@
 use Rattle.std.proofs.Common.{◌≡◌, length, sym, ap, ◌∙◌, subst, arith}
-use Rattle.std.specs.List.{AllByRecursion as All}
+use Rattle.std.specs.List.{AllByRecursion}
 use Rattle.report.specs.Desks.{plan_held}
 use Rattle.report.specs.Pages.{written}
 use Rattle.report.specs.Printed.{Narrow}
@@ -14,7 +14,7 @@ show_outcome-requires c =
     record {
       room = c.requires;
       few = omega (arith, ap length c.lines.ensures, p.lines.ok.0, p.few);
-      narrow = subst (All Narrow) (sym c.lines.ensures) (ranged_narrow _ (λ i below. (p.planned i below).0));
+      narrow = subst (AllByRecursion Narrow) (sym c.lines.ensures) (ranged_narrow _ (λ i below. (p.planned i below).0));
     }
 
 pub returns-in-Ok : goal.returns-in-Ok
