@@ -36,9 +36,9 @@ def sheet(policy, rows):
     return "\n".join(lines) + "\n"
 
 
-def print_batch():
-    """The batch, or with `--list` one line per case."""
-    batch = b"".join(b"%d\n" % len(text) + text for _, text in cases)
+def print_batch(first=0, last=None):
+    """The batch, or its cases from one place to another; with `--list` one line per case."""
+    batch = b"".join(b"%d\n" % len(text) + text for _, text in cases[first:last])
     assert len(batch) < MAX_BATCH, len(batch)
     if sys.argv[1:] == ["--list"]:
         for number, (group, text) in enumerate(cases, 1):

@@ -5,6 +5,8 @@ Each record is `LEN\\n` and LEN bytes of script. The batch is the same on every
 run and under every Python 3: the generator below is our own.
 
     make_bench_cases.py               the batch, on standard output
+    make_bench_cases.py --calls       its scripts that make calls and ask for counts
+    make_bench_cases.py --questions   the others, which ask for figures, the coming release and the worst line
     make_bench_cases.py --list        one line per case (number, size, group) instead
     make_bench_cases.py --check RUNS  prints nothing, and fails unless the answers of the batch
                                       hold what docs/RULES.md states of them
@@ -626,11 +628,17 @@ def random_questions():
 
 
 def main():
-    for group in (printed, starts, early_ends, rests, misses, passes, forms, frames, random_scripts,
-                  figures, figures_of_calls, figures_far, coming, worst, questions, random_questions):
+    for group in (printed, starts, early_ends, rests, misses, passes, forms, frames, random_scripts):
+        group()
+    calls = len(cases)
+    for group in (figures, figures_of_calls, figures_far, coming, worst, questions, random_questions):
         group()
     if sys.argv[1:2] == ["--check"]:
         check(sys.argv[2])
+    elif sys.argv[1:] == ["--calls"]:
+        print_batch(0, calls)
+    elif sys.argv[1:] == ["--questions"]:
+        print_batch(calls)
     else:
         print_batch()
 
