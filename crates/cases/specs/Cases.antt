@@ -1,10 +1,10 @@
 -- The worked cases of the rule book, each as a fact about the definitions that the contracts cite. Faults are
 -- spoken of by their numbers; the table of the numbers stands in `Edges`.
 --   printed_text, printed_lines, printed_plan   the sheet that the rule book prints, and its plan
---   late_job, early_job        two jobs that ED would swap if it went by deadlines alone
---   short_job, long_job        two jobs that DM turned round would swap
+--   late_job, early_job      two jobs that ED would swap if it went by deadlines alone
+--   short_job, long_job      two jobs that DM turned round would swap
 --   starved                  two lines of which the second never gets a unit
---   two_lines, eight_steps     two lines of which the second is started late, early and late
+--   two_lines, eight_steps   two lines of which the second is started late, early and late
 --   published                the published example, with offsets and deadlines of its regular lines
 --   Cases                    all cases, as one list
 use Rattle.std.specs.Prelude.{◌≡◌, ℕ, ◌+◌, ◌-◌, ◌<◌, Bool, true, false, List, [], ◌∷◌, map, Some, None, Ok, Err, codes}

@@ -1,7 +1,7 @@
 -- Both sides of every bound of reading and printing, and the table of faults.
---   sheet_of     a text under DM: a task line some times over, then more
---   either      two lines that ED runs in time and DM does not
---   Edges       all of them, as one list
+--   sheet_of   a text under DM: a task line some times over, then more
+--   either     two lines that ED runs in time and DM does not
+--   Edges      all of them, as one list
 use Rattle.std.specs.Prelude.{◌≡◌, ℕ, ◌+◌, ◌<◌, List, [], ◌∷◌, ◌++◌, map, replicate, Ok, Err, codes}
 use Rattle.std.specs.List.{flat_map}
 use Rattle.model.specs.declared.fault.Fault.TheVariants.{TextTooLong, TextNotEnded, Malformed, OutOfRange, TooManyLines, TooManyRegular, HyperperiodTooLong, PairTooLong, NoOffsets, DeadlineTooShort, Overload, Missed, Unsettled, ClockAtEnd, NoJob, NoSuchLine, RegularLine, RestAsItIs, BufferTooSmall}

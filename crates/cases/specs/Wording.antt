@@ -1,16 +1,16 @@
 -- Short words, so that a case reads as the rule book writes it.
---   regular, ordinary        a line: r, C, D and T
---   dm, ed                   lines under a policy
---   reported                 a fault: its number, its layer and its two places
---   rehearsing               the rehearsal of lines under a ranking
---   regular_job, ordinary_job  a job: its line, its release and its D*
---   unit                     a step and its reply
+--   regular, ordinary   a line: r, C, D and T
+--   dm, ed              lines under a policy
+--   reported            a fault: its number, its layer and its two places
+--   rehearsing          the rehearsal of lines under a ranking
+--   regular_job, ordinary_job   a job: its line, its release and its D*
+--   unit                a step and its reply
 --   idle, begins, goes_on, ends, whole   steps that struck nothing out
---   done, refused            other calls and their replies
---   Runs                     an executive replies so to these calls
---   counted                  the counts of a line that never rested
---   state_after               what an executive is left with after these calls
---   starts, figures          a start: its round and its instant; five jitter figures
+--   done, refused       other calls and their replies
+--   Runs                an executive replies so to these calls
+--   counted             the counts of a line that never rested
+--   state_after         what an executive is left with after these calls
+--   starts, figures     a start: its round and its instant; five jitter figures
 use Rattle.std.specs.Prelude.{ℕ, Bool, true, false, List, [], ◌∷◌, Result}
 use Rattle.model.specs.declared.fault.Fault.{Fault}
 use Rattle.model.specs.declared.fault.FaultCode.{FaultCode}

@@ -1,7 +1,7 @@
 -- The first entry of a list, in an order of its entries.
 --   first_entry   the entry that no other goes before, ties to the lower place; none of an empty list
---   EntryAt      it is the entry at a place
---   OnlyFirst    no other place has the first entry
+--   EntryAt       it is the entry at a place
+--   OnlyFirst     no other place has the first entry
 use Rattle.std.specs.Prelude.{◌≡◌, ℕ, Bool, List, [], ◌∷◌, length, Some, None, Option, slice_index_or}
 use Rattle.std.specs.List.{IsFirstBest, best_of}
 

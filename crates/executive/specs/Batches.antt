@@ -1,6 +1,6 @@
 -- Lists of calls that an executive takes one after another.
 --   events_of   calls with their replies, as a history
---   TookEach   the calls of a list were taken as the rules say
+--   TookEach    the calls of a list were taken as the rules say
 use Rattle.std.specs.Prelude.{◌≡◌, ℕ, Bool, List, [], ◌∷◌, ◌++◌, vec_items}
 use Rattle.model.specs.declared.job.Job.{Job}
 use Rattle.planning.specs.Hyperperiods.{hyperperiod}

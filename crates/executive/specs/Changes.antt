@@ -1,11 +1,11 @@
 -- What a call between steps asks for.
---   InOrder        the slots are as they are kept before some step
---   place_in        the place of a line by its number, or that there is no such line
---   alike          two answers are the same
+--   InOrder                the slots are as they are kept before some step
+--   place_in               the place of a line by its number, or that there is no such line
+--   alike                  two answers are the same
 --   change_of, line_to_change   the line that a rest or a resume is for, or why it is refused
---   job_aside       a line under way whose pending job was set aside
---   last_after      where the last unit went, after an event
---   ended_by        the line whose job an event ends early, if it does
+--   job_aside              a line under way whose pending job was set aside
+--   last_after             where the last unit went, after an event
+--   ended_by               the line whose job an event ends early, if it does
 --   counts_of, counts_in   what became of a line's jobs, by its number
 use Rattle.std.specs.Prelude.{ℕ, ◌+◌, ◌-◌, ◌^◌, ◌≤◌, Bool, true, false, cond, ◌&&◌, List, length, Some, None, Ok, Err, Option, Result, ◌==◌, nat_le, slice_index_or}
 use Rattle.model.specs.Ranges.{is_regular}

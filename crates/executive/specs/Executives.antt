@@ -1,5 +1,5 @@
 -- What every executive keeps between its calls.
---   lines_of        the lines of lines under way
+--   lines_of       the lines of lines under way
 --   StillPending   where the last unit is said to be of a pending job, that job is pending
 --   RestLawfully   a line at rest is ordinary and has no pending job
 --   Tracked        a track's figures are bounded by its last start, which lies behind

@@ -1,14 +1,14 @@
 -- The questions that an executive answers between its calls.
---   figures_in                the jitter figures of a line, by its number
---   OfTheRun                 they are those of the starts that the replies of the run show
---   next_release              the next release of a line that is not at rest
---   releases_ahead            those of all such lines
---   coming_of, IsComingOf     the coming release, and what makes it that
---   ComingOfRun              the same by the replies of the run
---   largest_deviation         a line with its largest deviation, if it has any
---   deviating                all lines with deviations
---   worst_of, IsWorstOf       the worst line, and what makes it that
---   WorstOfRun               the same by the replies of the run
+--   figures_in              the jitter figures of a line, by its number
+--   OfTheRun                they are those of the starts that the replies of the run show
+--   next_release            the next release of a line that is not at rest
+--   releases_ahead          those of all such lines
+--   coming_of, IsComingOf   the coming release, and what makes it that
+--   ComingOfRun             the same by the replies of the run
+--   largest_deviation       a line with its largest deviation, if it has any
+--   deviating               all lines with deviations
+--   worst_of, IsWorstOf     the worst line, and what makes it that
+--   WorstOfRun              the same by the replies of the run
 use Rattle.std.specs.Prelude.{◌≡◌, ℕ, ◌+◌, ◌-◌, ◌<◌, ◌≤◌, Bool, true, false, cond, ◌⊎◌, List, [], ◌∷◌, length, get_or, Some, None, Ok, Err, Option, Result, MatchResult, nat_lt, slice_index_or}
 use Rattle.model.specs.Ranges.{blank}
 use Rattle.model.specs.declared.fault.Fault.{Fault}

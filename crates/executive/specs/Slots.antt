@@ -1,14 +1,14 @@
 -- A line under way as the executive keeps it: with the instant of its next release at hand.
 --   coming_at    a line's first release at or after an instant
---   IsComing    what makes an instant that release
+--   IsComing     what makes an instant that release
 --   tasks_of     the lines under way of a list of slots
 --   blank_slot   what stands past the end of a list of slots
 --   task_at      the line under way at a place, if a place is given
---   Within      that place is one of the slots
---   Balanced    the jobs made are those ended, missed, set aside and pending
---   Live        a pending job is of a release that lies behind, and its deadline does not
---   Kept        what every slot keeps before the step at t
---   AllKept     so does every slot of a list, and they are numbered from 1
+--   Within       that place is one of the slots
+--   Balanced     the jobs made are those ended, missed, set aside and pending
+--   Live         a pending job is of a release that lies behind, and its deadline does not
+--   Kept         what every slot keeps before the step at t
+--   AllKept      so does every slot of a list, and they are numbered from 1
 use Rattle.std.specs.Prelude.{◌≡◌, ℕ, ◌+◌, ◌-◌, ◌*◌, ◌/◌, ◌^◌, ◌<◌, ◌≤◌, true, cond, List, map, length, get_or, Some, None, Option, nat_le, slice_index_or}
 use Rattle.model.specs.Ranges.{Ranged}
 use Rattle.model.specs.declared.line.Line.{Line}

@@ -1,7 +1,7 @@
 -- An executive as the rules see it, and what a call on it must do.
---   view_of      the state of an executive
+--   view_of            the state of an executive
 --   unit_or, done_or   a result as a reply
---   Took        a call was taken as the rules say
+--   Took               a call was taken as the rules say
 use Rattle.std.specs.Prelude.{◌≡◌, ℕ, Bool, [], ◌∷◌, ◌++◌, take, Ok, Err, vec_items, vec_len, Result}
 use Rattle.model.specs.declared.fault.Fault.{Fault}
 use Rattle.model.specs.declared.job.Job.{Job}

@@ -1,6 +1,6 @@
 -- The number, the layer and the two places of every fault; a missing place is 0.
---   code        what is reported: a number, a layer and two places
---   code_of      what is reported of a fault
+--   code      what is reported: a number, a layer and two places
+--   code_of   what is reported of a fault
 use Rattle.model.specs.declared.fault.Fault.{Fault}
 use Rattle.model.specs.declared.fault.Fault.TheVariants.{TextTooLong, TextNotEnded, Malformed, OutOfRange, TooManyLines, TooManyRegular, HyperperiodTooLong, PairTooLong, NoOffsets, DeadlineTooShort, Overload, Missed, Unsettled, ClockAtEnd, NoJob, NoSuchLine, RegularLine, RestAsItIs, BufferTooSmall, NoMemory}
 use Rattle.model.specs.declared.fault.FaultCode.{FaultCode}

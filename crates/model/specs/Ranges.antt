@@ -1,9 +1,9 @@
 -- The ranges of a line's figures.
 --   regular_kind, is_regular   which kinds and lines keep their period to the unit
---   Ranged      every figure of a line lies in its range
---   AllRanged   so do those of every line of a list
---   regulars    how many lines of a list are regular
---   blank       what stands past the end of a list of lines
+--   Ranged                     every figure of a line lies in its range
+--   AllRanged                  so do those of every line of a list
+--   regulars                   how many lines of a list are regular
+--   blank                      what stands past the end of a list of lines
 use Rattle.std.specs.Prelude.{ℕ, ◌+◌, ◌<◌, ◌≤◌, Bool, true, false, cond, List, [], ◌∷◌, length, slice_index_or}
 use Rattle.model.specs.declared.kind.Kind.{Kind}
 use Rattle.model.specs.declared.kind.Kind.TheVariants.{Ordinary, Regular}

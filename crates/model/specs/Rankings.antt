@@ -1,8 +1,8 @@
 -- What makes a ranking lawful, and the relations of the two rankings.
---   Sound, Others, later   the jobs that the laws speak of
---   Ordered, Lawful        the five properties
---   regular_first, smaller  how the two rankings are made
---   dm_ahead, ed_ahead       the two rankings
+--   Sound, Others, later      the jobs that the laws speak of
+--   Ordered, Lawful           the five properties
+--   regular_first, smaller    how the two rankings are made
+--   dm_ahead, ed_ahead        the two rankings
 --   KeyRule, DmRule, EdRule   what the rules say of them
 use Rattle.std.specs.Prelude.{◌≡◌, ℕ, ◌+◌, ◌^◌, ◌<◌, ◌≤◌, Bool, true, false, cond, not, ◌==◌, nat_lt}
 use Rattle.model.specs.declared.job.Job.{Job}

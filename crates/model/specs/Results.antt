@@ -1,6 +1,6 @@
 -- One step behind another, where each step may come to a fault.
---   and_then     what follows an `Ok`
---   or_fault     what follows a value
+--   and_then   what follows an `Ok`
+--   or_fault   what follows a value
 use Rattle.std.specs.Prelude.{Some, None, Ok, Err, Option, Result}
 use Rattle.model.specs.declared.fault.Fault.{Fault}
 

@@ -1,7 +1,7 @@
 -- A policy and its lines: what a sheet says, and what a plan says.
 --   TaskSet, task_set   the policy and the lines, in sheet order
---   no_tasks     what a new place holds
---   Filled      what a call that fills a place replies, and what the place holds then
+--   no_tasks            what a new place holds
+--   Filled              what a call that fills a place replies, and what the place holds then
 use Rattle.std.specs.Prelude.{◌≡◌, List, [], Ok, Err, Result}
 use Rattle.model.specs.declared.fault.Fault.{Fault}
 use Rattle.model.specs.declared.line.Line.{Line}

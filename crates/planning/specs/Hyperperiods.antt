@@ -1,9 +1,9 @@
 -- The hyperperiod of a list of lines, and its limit.
 --   hyper_from, hyperperiod   the least common multiple of all periods, 1 without lines
---   limit                    the longest hyperperiod that a plan may have
+--   limit                     the longest hyperperiod that a plan may have
 --   passes_at                 the first line with which the least common multiple passes the limit
---   PassesFirst              a line is the first with which it does
---   IsHyperperiod            what makes a number the hyperperiod
+--   PassesFirst               a line is the first with which it does
+--   IsHyperperiod             what makes a number the hyperperiod
 use Rattle.std.specs.Prelude.{ℕ, ◌+◌, ◌-◌, ◌<◌, ◌≤◌, cond, List, [], ◌∷◌, length, take, Some, None, Option, nat_lt}
 use Rattle.std.specs.Int.{◌∣◌}
 use Rattle.std.specs.List.{AllByRecursion}

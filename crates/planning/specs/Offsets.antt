@@ -1,13 +1,13 @@
 -- Offsets for the regular lines of a sheet.
---   or_else      the first of two that there is
+--   or_else                  the first of two that there is
 --   short_pair, short_with   the first pair of regular lines that no offsets keep apart
---   FirstNeverApart   a pair is the first that no offsets keep apart
---   unplaced    what is known of a line before it has its offset
---   clear_of     a line is apart from every regular line of a list
---   try_from, place   backtracking: line by line, smallest offset first, back where a line has none left
---   Placing     a list of lines with lawful offsets
---   NotAfter    one such list comes no later than another, in dictionary order
---   Least       the first such list
+--   FirstNeverApart          a pair is the first that no offsets keep apart
+--   unplaced                 what is known of a line before it has its offset
+--   clear_of                 a line is apart from every regular line of a list
+--   try_from, place          backtracking: line by line, smallest offset first, back where a line has none left
+--   Placing                  a list of lines with lawful offsets
+--   NotAfter                 one such list comes no later than another, in dictionary order
+--   Least                    the first such list
 use Rattle.std.specs.Prelude.{◌≡◌, ℕ, zero, suc, ◌+◌, ◌-◌, ◌<◌, ◌≤◌, Bool, true, false, cond, not, ◌&&◌, ◌||◌, ◌⊎◌, List, [], ◌∷◌, ◌++◌, length, get_or, take, Some, None, Option, slice_index_or}
 use Rattle.model.specs.Ranges.{is_regular, blank}
 use Rattle.model.specs.declared.line.Line.{Line}

@@ -1,5 +1,5 @@
 -- What a plan's place holds.
---   plan_set     its policy and its lines
+--   plan_set   its policy and its lines
 use Rattle.std.specs.Prelude.{vec_items}
 use Rattle.model.specs.TaskSets.{TaskSet, task_set}
 use Rattle.planning.specs.declared.plan.Plan.{Plan}

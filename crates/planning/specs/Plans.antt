@@ -1,11 +1,11 @@
 -- What planning makes of a sheet, and what every plan keeps.
---   refuse, need   a refusal where something was found, or where nothing was
---   plan_of        the plan, or the first refusal in the order: hyperperiod, pair, offsets, deadline
---   Unplaceable   no offsets keep every two regular lines apart
---   TooShortAt    the first line whose deadline in the plan would be too short
---   PlacedFirst   the offsets of a plan, and what a refusal for want of them says
+--   refuse, need          a refusal where something was found, or where nothing was
+--   plan_of               the plan, or the first refusal in the order: hyperperiod, pair, offsets, deadline
+--   Unplaceable           no offsets keep every two regular lines apart
+--   TooShortAt            the first line whose deadline in the plan would be too short
+--   PlacedFirst           the offsets of a plan, and what a refusal for want of them says
 --   Planned, AllPlanned   the ranges of a plan's lines
---   IsPlan        what every plan keeps of its lines
+--   IsPlan                what every plan keeps of its lines
 use Rattle.std.specs.Prelude.{◌≡◌, ℕ, ◌<◌, ◌≤◌, true, List, [], length, Some, None, Ok, Err, Option, Result, MatchResult, slice_index_or}
 use Rattle.model.specs.Ranges.{Ranged, is_regular, blank, regulars}
 use Rattle.model.specs.TaskSets.{TaskSet, task_set}

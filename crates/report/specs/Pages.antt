@@ -1,7 +1,7 @@
 -- A page: a buffer that is written from its start, with the place that comes next.
---   written     a buffer after bytes were stored from a place on
---   Room        bytes find room on a page
---   Wrote       what a page holds after bytes were put on it
+--   written   a buffer after bytes were stored from a place on
+--   Room      bytes find room on a page
+--   Wrote     what a page holds after bytes were put on it
 use Rattle.std.specs.Prelude.{◌≡◌, ℕ, ◌+◌, ◌≤◌, List, ◌++◌, length, take, drop}
 use Rattle.report.specs.declared.page.Page.{Page}
 

@@ -1,12 +1,12 @@
 -- What one call that prints replies, what its buffer holds then, and what its desk holds.
---   ahead_of     the ranking that a policy names
---   rehearsed   the rehearsal of a plan, under the ranking of its policy
+--   ahead_of              the ranking that a policy names
+--   rehearsed             the rehearsal of a plan, under the ranking of its policy
 --   planned_from the plan of a text, or the fault of reading or planning
---   report_text  what is printed of a plan, or of the fault that stood in its way
---   report_of    what is printed of a text
+--   report_text           what is printed of a plan, or of the fault that stood in its way
+--   report_of             what is printed of a text
 --   buffer_least the shortest buffer that is taken
---   reply_of     the reply: the number of bytes, or the refusal
---   buffer_of    the buffer after the call
+--   reply_of              the reply: the number of bytes, or the refusal
+--   buffer_of             the buffer after the call
 --   kept_or, held_after   what a place holds after a call that fills it
 use Rattle.std.specs.Prelude.{ℕ, Bool, cond, List, length, Ok, Err, Result, nat_lt}
 use Rattle.std.specs.Result.{result_err}

@@ -1,7 +1,7 @@
 -- The state of an executive, and what one call makes of it and replies.
---   State       the clock, the lines under way, where the last unit went, and the tracks of the lines
+--   State        the clock, the lines under way, where the last unit went, and the tracks of the lines
 --   last_clock   the clock at which no step is taken any more
---   begun       an executive that has been started
+--   begun        an executive that has been started
 --   is_line      there is a line of that number
 --   step_of, end_of, rest_of, resume_of   the four calls
 --   next_of      any of them

@@ -1,14 +1,14 @@
 -- A run as it is seen from outside: its calls and their replies, the oldest first.
---   Event, History   a call with its reply, and all of them since the start
---   units_of          the lines that the accepted steps returned; 0 is an idle unit
---   clock_of          the clock after a history
---   line_at           the line that had the unit at an instant
---   units_in          how many of the units from one instant to before another a line had
+--   Event, History          a call with its reply, and all of them since the start
+--   units_of                the lines that the accepted steps returned; 0 is an idle unit
+--   clock_of                the clock after a history
+--   line_at                 the line that had the unit at an instant
+--   units_in                how many of the units from one instant to before another a line had
 --   StepAt, EndAt, RestAt   what was accepted at a clock
---   rests_after       a line is at rest after a history
---   release          the instant of a line's release k
---   releases_in       how many releases of a line fall into some units
---   Ran              a history that an executive made, and the state that it left
+--   rests_after             a line is at rest after a history
+--   release                 the instant of a line's release k
+--   releases_in             how many releases of a line fall into some units
+--   Ran                     a history that an executive made, and the state that it left
 use Rattle.std.specs.Prelude.{◌≡◌, ℕ, zero, suc, ◌+◌, ◌-◌, ◌*◌, min, Bool, true, false, cond, List, [], ◌∷◌, ◌++◌, length, take, drop, count_by, ◌==◌, nat_eq, slice_index}
 use Rattle.model.specs.declared.job.Job.{Job}
 use Rattle.model.specs.declared.line.Line.{Line}

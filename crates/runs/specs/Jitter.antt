@@ -1,10 +1,10 @@
 -- Jitter: the starts of a line's jobs, held against its period.
 --   round_at        the round that an instant falls into
 --   start_at        a job's start at an instant
---   deviation      how far two starts lie from being a period apart
---   deviations     those of all starts that follow each other
+--   deviation       how far two starts lie from being a period apart
+--   deviations      those of all starts that follow each other
 --   figures_of      a line's figures, by its starts
---   noted          a track with one start more
+--   noted           a track with one start more
 --   track_figures   the figures of a track
 --   note_start      all tracks after a step
 use Rattle.std.specs.Prelude.{ℕ, ◌+◌, ◌-◌, ◌*◌, ◌/◌, max, cond, List, [], ◌∷◌, map, length, get_or, Some, None, fold, sum, Option, slice_index_or, slice_set}

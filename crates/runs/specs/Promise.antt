@@ -1,13 +1,13 @@
 -- What every run keeps, whatever the ranking, the plan, the start and the calls.
---   SoundPlan    what the lines of every plan keep
---   EndedBy      a job's early end
---   Regularly    every regular job begins in the unit of its release and is not interrupted
---   Truly        each step says truly whether a job began and ended with its unit
---   Over         a job has ended or been set aside in time
---   InTime       no job misses its deadline or is struck out
---   Tallied      what became of every job
---   Figured      the jitter figures are those of the starts
---   Promise      all of it
+--   SoundPlan   what the lines of every plan keep
+--   EndedBy     a job's early end
+--   Regularly   every regular job begins in the unit of its release and is not interrupted
+--   Truly       each step says truly whether a job began and ended with its unit
+--   Over        a job has ended or been set aside in time
+--   InTime      no job misses its deadline or is struck out
+--   Tallied     what became of every job
+--   Figured     the jitter figures are those of the starts
+--   Promise     all of it
 use Rattle.std.specs.Prelude.{◌≡◌, ℕ, ◌+◌, ◌-◌, ◌*◌, ◌<◌, ◌≤◌, Bool, true, false, cond, ◌⊎◌, List, ◌∷◌, ◌++◌, length, get_or, Ok, ◌==◌, slice_index_or}
 use Rattle.std.specs.List.{AllByRecursion}
 use Rattle.model.specs.Ranges.{is_regular, Ranged, blank}

@@ -1,12 +1,12 @@
 -- The rehearsal as rules on the run of a plan's lines, with no order of tests in them.
---   state_at          all lines before the step at an instant, in the run from instant 0
---   NoneStruckBelow  no job is struck out before an instant
---   LowestStruck     a line has a job that is struck out, and no lower line has one
---   units_left        the units left on every line
+--   state_at                  all lines before the step at an instant, in the run from instant 0
+--   NoneStruckBelow           no job is struck out before an instant
+--   LowestStruck              a line has a job that is struck out, and no lower line has one
+--   units_left                the units left on every line
 --   first_mark, second_mark   the instants at which the units left are looked at
---   SameAtMarks      they are the same on every line
---   Rehearsed        the results that the rules permit
---   OnlyRehearsed    the rules permit this result, and no other
+--   SameAtMarks               they are the same on every line
+--   Rehearsed                 the results that the rules permit
+--   OnlyRehearsed             the rules permit this result, and no other
 use Rattle.std.specs.Prelude.{◌≡◌, ℕ, zero, suc, ◌+◌, ◌<◌, ◌≤◌, Bool, true, false, List, map, length, Ok, Err, Result, slice_index_or}
 use Rattle.std.specs.List.{AllByRecursion}
 use Rattle.model.specs.declared.fault.Fault.{Fault}

@@ -1,11 +1,11 @@
 -- The rehearsal: a plan's lines run from instant 0, each job at its full length, with no other call.
 --   share_of, load_of   units that a line, and all lines, take up in one hyperperiod
---   last_offset        the largest offset, 0 without lines
---   miss_at            a step that strikes a job out misses the lowest such line
---   run_units          some units from an instant on, up to the first job that is struck out
---   same_left          the same units left on every line of two lists
---   between_marks      run to the first mark and on to the second, and compare the units left
---   rehearsal_of       what the rehearsal comes to
+--   last_offset         the largest offset, 0 without lines
+--   miss_at             a step that strikes a job out misses the lowest such line
+--   run_units           some units from an instant on, up to the first job that is struck out
+--   same_left           the same units left on every line of two lists
+--   between_marks       run to the first mark and on to the second, and compare the units left
+--   rehearsal_of        what the rehearsal comes to
 use Rattle.std.specs.Prelude.{ℕ, zero, suc, ◌+◌, ◌*◌, ◌/◌, max, Bool, true, false, cond, ◌&&◌, List, [], ◌∷◌, Ok, Err, Result, ◌==◌, nat_lt}
 use Rattle.model.specs.declared.fault.Fault.{Fault}
 use Rattle.model.specs.declared.fault.Fault.TheVariants.{Overload, Missed, Unsettled}

@@ -1,7 +1,7 @@
 -- The starts that a run shows.
 --   start_in    the start that a reply shows
 --   starts_of   all starts of a line, the oldest first
---   InRound    a start lies in its round
+--   InRound     a start lies in its round
 use Rattle.std.specs.Prelude.{ℕ, ◌+◌, ◌<◌, ◌≤◌, cond, ◌&&◌, List, [], ◌∷◌, ◌++◌, length, ◌==◌}
 use Rattle.model.specs.declared.line.Line.{Line}
 use Rattle.runs.specs.declared.call.Reply.{Reply}

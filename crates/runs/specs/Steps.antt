@@ -1,12 +1,12 @@
 -- One unit of time: who gets it, and what all lines hold after it.
 --   first_of     the line whose pending job goes ahead of all other pending jobs
---   stepped     all lines after the unit at an instant
+--   stepped      all lines after the unit at an instant
 --   lowest_due   the lowest line with a job that is struck out at an instant, or 0
 --   report_of    what a step replies
---   Numbered    lines carry their numbers, counted from a number on
---   WellFormed  at most 24 lines, numbered from 1, with periods, released before 10^12
---   First       a line whose pending job goes ahead of every other pending job
---   ToFirst     the unit goes to that line, or to none if no line is pending
+--   Numbered     lines carry their numbers, counted from a number on
+--   WellFormed   at most 24 lines, numbered from 1, with periods, released before 10^12
+--   First        a line whose pending job goes ahead of every other pending job
+--   ToFirst      the unit goes to that line, or to none if no line is pending
 use Rattle.std.specs.Prelude.{◌≡◌, ℕ, zero, suc, ◌+◌, ◌^◌, ◌<◌, ◌≤◌, Bool, true, false, cond, ◌&&◌, List, [], ◌∷◌, map, length, Some, None, count_by, Option, ◌==◌, ◌≢◌, slice_index_or}
 use Rattle.std.specs.List.{AllByRecursion}
 use Rattle.model.specs.declared.job.Job.{Job}

@@ -1,16 +1,16 @@
 -- One line under way, and what one instant does to it.
---   pending     it has a job with units left
---   due         that job comes to its deadline at an instant
---   struck      the same line after its due job was struck out
---   arrives     it has a release at an instant, and is not at rest
---   admitted    the same line with the job of that release
---   arrived     struck out first, then admitted
---   job_of       its job, as a ranking sees it
---   given       one unit less left
---   served      the same, for the line that gets the unit
+--   pending               it has a job with units left
+--   due                   that job comes to its deadline at an instant
+--   struck                the same line after its due job was struck out
+--   arrives               it has a release at an instant, and is not at rest
+--   admitted              the same line with the job of that release
+--   arrived               struck out first, then admitted
+--   job_of                its job, as a ranking sees it
+--   given                 one unit less left
+--   served                the same, for the line that gets the unit
 --   ended_early, rested, resumed   what the calls between steps do to a line
 --   new_task, new_tasks   lines before their first instant, numbered from a number on
---   blank_task   what stands past the end of a list of lines under way
+--   blank_task            what stands past the end of a list of lines under way
 use Rattle.std.specs.Prelude.{ℕ, ◌+◌, ◌-◌, ◌%◌, Bool, true, false, cond, not, ◌&&◌, List, [], ◌∷◌, ◌==◌, nat_le, nat_lt}
 use Rattle.model.specs.Ranges.{blank}
 use Rattle.model.specs.declared.job.Job.{Job}

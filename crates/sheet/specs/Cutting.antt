@@ -1,7 +1,7 @@
 -- How a text falls into lines, and a line into fields.
 --   glue        a byte more in front of the first part
---   lines_of     the lines of a text, each without the byte 10 that ends it
---   fields_of    the fields of a line, cut at every single space
+--   lines_of    the lines of a text, each without the byte 10 that ends it
+--   fields_of   the fields of a line, cut at every single space
 use Rattle.std.specs.Prelude.{ℕ, cond, List, [], ◌∷◌, ◌==◌}
 
 -- One byte more in front of the first part.

@@ -1,10 +1,10 @@
 -- What the field reader has still to give, and what it gives next.
 --   fields_left, left   the fields that are still to come
---   text_of, place_of    what a field holds
---   following          the place after a place
---   Cased              which field of a line is of which case
---   Yields             what the next field is, and what is left then
---   Moved              one more field is behind the reader
+--   text_of, place_of   what a field holds
+--   following           the place after a place
+--   Cased               which field of a line is of which case
+--   Yields              what the next field is, and what is left then
+--   Moved               one more field is behind the reader
 use Rattle.std.specs.Prelude.{◌≡◌, ℕ, ◌+◌, min, List, [], ◌∷◌, drop, Some, None, Option, ◌≢◌}
 use Rattle.std.specs.Borrow.{Bor}
 use Rattle.sheet.specs.declared.field.Place.{Place}

@@ -1,13 +1,13 @@
 -- Which texts are sheets, and what they say, without any order of faults.
---   NamedTask                   a task as the sheet's writer names it
+--   NamedTask                 a task as the sheet's writer names it
 --   letter, spaced, task_words   how a task is written
---   task_text, tasks_text         the lines that say tasks
---   policy_word, sheet_text       the text of a policy and its tasks
---   lines_of_tasks                tasks without their names
---   Sound                       a task that may stand on a sheet
---   Admits                      a text is the sheet of a policy and its tasks
---   Admitted                    a text is a sheet
---   Says                        what a sheet says
+--   task_text, tasks_text     the lines that say tasks
+--   policy_word, sheet_text   the text of a policy and its tasks
+--   lines_of_tasks            tasks without their names
+--   Sound                     a task that may stand on a sheet
+--   Admits                    a text is the sheet of a policy and its tasks
+--   Admitted                  a text is a sheet
+--   Says                      what a sheet says
 use Rattle.std.specs.Prelude.{◌≡◌, ℕ, ◌≤◌, true, List, [], ◌∷◌, ◌++◌, map, length, decimal}
 use Rattle.std.specs.List.{AllByRecursion}
 use Rattle.model.specs.declared.kind.Kind.{Kind}

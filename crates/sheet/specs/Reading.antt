@@ -1,13 +1,13 @@
 -- What a text is read as: the sheet, or the first fault in the order of the text.
---   letter_kind, kind_of                        what a kind's field says
---   all_name_bytes, is_name                      which bytes are a name
---   leading_zero, is_number, value_from, number_of    what a number's field says
+--   letter_kind, kind_of      what a kind's field says
+--   all_name_bytes, is_name   which bytes are a name
+--   leading_zero, is_number, value_from, number_of   what a number's field says
 --   read_kind, read_name, read_number, read_end   one field in its place
---   read_figures, read_fields, read_line         a task line
---   read_tasks                                 the task lines behind those that were read
---   policy_of, read_policy                      line 0
---   read_lines                                 all lines
---   is_ended, read_sheet                        a whole text
+--   read_figures, read_fields, read_line   a task line
+--   read_tasks                the task lines behind those that were read
+--   policy_of, read_policy    line 0
+--   read_lines                all lines
+--   is_ended, read_sheet      a whole text
 use Rattle.std.specs.Prelude.{ℕ, ◌+◌, ◌-◌, ◌*◌, Bool, true, cond, not, ◌&&◌, List, [], ◌∷◌, ◌++◌, length, drop, Some, None, Ok, Err, Option, Result, ◌==◌, nat_le, nat_lt, slice_index}
 use Rattle.std.specs.Int.{is_in_range}
 use Rattle.std.specs.Char.{is_ascii_alphanumeric}

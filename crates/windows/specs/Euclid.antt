@@ -1,9 +1,9 @@
 -- Divisors and multiples that two numbers have in common.
---   euclid      Euclid's rule, in so many steps
---   gcd_of       the greatest common divisor, by Euclid's rule
---   lcm_of       the least common multiple
---   IsGcd       what makes a number the greatest common divisor
---   IsLcm       what makes a number the least common multiple
+--   euclid   Euclid's rule, in so many steps
+--   gcd_of   the greatest common divisor, by Euclid's rule
+--   lcm_of   the least common multiple
+--   IsGcd    what makes a number the greatest common divisor
+--   IsLcm    what makes a number the least common multiple
 use Rattle.std.specs.Prelude.{ℕ, zero, suc, ◌+◌, ◌*◌, ◌/◌, ◌%◌, cond, ◌==◌}
 use Rattle.std.specs.Int.{◌∣◌}
 

@@ -1,16 +1,16 @@
 -- The windows of a line, when two lines meet, and the test by their periods.
---   InWindow    a unit lies in a window of a line
---   Meet        two lines meet
---   Periodic    a line has windows of some length, over and over
---   gap_of       how far the windows of one line begin behind those of another
---   apart_by     the pair test, by a given divisor of the periods
---   apart_lines  the pair test
---   roomy_lines  two lines are short enough to be apart at some offsets
---   at          a line moved to an offset
---   Crowded     no offsets keep two lines apart
---   Room        some offsets do
---   Pair        two places of a list that hold regular lines
---   AllApart    every two regular lines of a list are apart
+--   InWindow      a unit lies in a window of a line
+--   Meet          two lines meet
+--   Periodic      a line has windows of some length, over and over
+--   gap_of        how far the windows of one line begin behind those of another
+--   apart_by      the pair test, by a given divisor of the periods
+--   apart_lines   the pair test
+--   roomy_lines   two lines are short enough to be apart at some offsets
+--   at            a line moved to an offset
+--   Crowded       no offsets keep two lines apart
+--   Room          some offsets do
+--   Pair          two places of a list that hold regular lines
+--   AllApart      every two regular lines of a list are apart
 use Rattle.std.specs.Prelude.{◌≡◌, ℕ, ◌+◌, ◌-◌, ◌*◌, ◌%◌, ◌<◌, ◌≤◌, Bool, true, false, ◌&&◌, List, length, nat_le, nat_lt, slice_index_or}
 use Rattle.model.specs.Ranges.{is_regular, blank}
 use Rattle.model.specs.declared.line.Line.{Line}
