@@ -20,7 +20,7 @@ unlawful : (ahead : Job → Job → Bool) → ahead early_job late_job ≡ true 
 unlawful ahead e lawful =
     let late : Sound late_job = (omega arith, omega arith, omega arith) in
     let early : Sound early_job = (omega arith, omega arith, omega arith) in
-    let first : ahead late_job early_job ≡ true = lawful.regular_first_lem late_job early_job late early (λ n. omega (arith, n)) refl refl in
+    let first : ahead late_job early_job ≡ true = lawful.regular_first late_job early_job late early (λ n. omega (arith, n)) refl refl in
     true≢false (sym e ∙ lawful.ordered.exactly_one early_job late_job early late (λ n. omega (arith, n)) ∙ ap not first)
 
 -- By its rule DM puts the smaller D* ahead, and not the larger.

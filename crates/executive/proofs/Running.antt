@@ -60,8 +60,8 @@ module _ (xs ys : List Slot) (i : ℕ) where
   pub left_all : length xs ≤ i → length ys ≤ i → true ≡ left_from i
   left_all p q = sym (ap (λ us. same_left us (drop i (tasks_of ys))) (drop_all i (tasks_of xs) (rw (length_tasks xs) p)) ∙ ap (λ vs. same_left [] vs) (drop_all i (tasks_of ys) (rw (length_tasks ys) q)))
 
-pub largest_offset_le : (ls : List Line) → AllRanged ls → last_offset ls ≤ 60000
-largest_offset_le [] h = omega arith
-largest_offset_le (l ∷ ls) h =
+pub last_offset_le : (ls : List Line) → AllRanged ls → last_offset ls ≤ 60000
+last_offset_le [] h = omega arith
+last_offset_le (l ∷ ls) h =
     let here = h 0 (omega arith) in
-    omega (arith, here.0, largest_offset_le ls (λ i below. h (suc i) (omega arith)))
+    omega (arith, here.0, last_offset_le ls (λ i below. h (suc i) (omega arith)))

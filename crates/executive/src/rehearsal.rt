@@ -7,7 +7,7 @@ ghost use Rattle.model.specs.Ranges.{Ranged, AllRanged};
 ghost use Rattle.executive.specs.Slots.{tasks_of, AllKept};
 ghost use Rattle.runs.specs.Steps.{stepped};
 ghost use Rattle.runs.specs.RehearsalRules.{OnlyRehearsed};
-ghost use Rattle.runs.specs.Rehearsals.{share_of, load_of, last_offset, miss_at, run_units, same_left, and_then, between_marks as betweenMarksOf, rehearsal_of};
+ghost use Rattle.runs.specs.Rehearsals.{share_of, load_of, last_offset, miss_at, run_units, same_left, and_then, between_marks as between_marks_of, rehearsal_of};
 
 use crate::slot::{NO_SLOT, Slot, set_up};
 use crate::step::step;
@@ -97,7 +97,7 @@ fn between_marks<R: Ranking>(
     h: u64,
 ) -> Result<(), Fault>
     requires { (AllKept 0 slots.old) × ((length slots.old ≤ 24) × ((length saved.old ≡ length slots.old) × (mark + h ≤ 10 ^ 12))) }
-    ensures { result ≡ betweenMarksOf (R.ahead ranking.now) mark h (tasks_of slots.old) }
+    ensures { result ≡ between_marks_of (R.ahead ranking.now) mark h (tasks_of slots.old) }
 {
     run(slots, ranking, 0, mark)?;
     saved.copy_from_slice(slots);

@@ -5,7 +5,7 @@ ghost use Rattle.std.specs.Prelude.{◌≡◌, ◌+◌, ◌^◌, ◌<◌, ◌≤
 ghost use Rattle.model.specs.declared.job.Job.{Job};
 ghost use Rattle.runs.specs.Tasks.{due, given, job_of, pending};
 ghost use Rattle.executive.specs.Slots.{tasks_of, blank_slot, task_at, Within, AllKept};
-ghost use Rattle.runs.specs.Steps.{first_from, first_of, arrived_all, stepped as steppedAll, lowest_due, report_for, report_of, ToFirst};
+ghost use Rattle.runs.specs.Steps.{first_from, first_of, arrived_all, stepped as stepped_all, lowest_due, report_for, report_of, ToFirst};
 
 use crate::slot::Slot;
 use crate::task::{give, is_pending, job};
@@ -118,7 +118,7 @@ fn give_unit(task: &mut Task, struck: u32) -> StepReport
 // The unit at instant `t`.
 pub(crate) fn step<R: Ranking>(slots: &mut [Slot], ranking: &R, t: u64) -> Stepped
     requires { (AllKept t slots.old) × ((length slots.old ≤ 24) × (t < 10 ^ 12)) }
-    ensures tasks { tasks_of slots.new ≡ steppedAll (R.ahead ranking.now) t (tasks_of slots.old) }
+    ensures tasks { tasks_of slots.new ≡ stepped_all (R.ahead ranking.now) t (tasks_of slots.old) }
     ensures kept { AllKept (t + 1) slots.new }
     ensures report { result.report ≡ report_of (R.ahead ranking.now) t (tasks_of slots.old) }
     ensures lowest { result.lowest ≡ lowest_due t (tasks_of slots.old) }

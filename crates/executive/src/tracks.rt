@@ -3,7 +3,7 @@
 ghost use Rattle.std.specs.Prelude.{◌≡◌, ◌+◌, ◌^◌, ◌<◌, ◌≤◌, max, true, List, length, get_or, Some, slice_index_or};
 ghost use Rattle.model.specs.Ranges.{AllRanged, blank};
 ghost use Rattle.runs.specs.declared.task.Task.{Task};
-ghost use Rattle.runs.specs.Jitter.{start_at, distance as distance_of, deviation as deviationOf, no_track, noted, track_figures, note_start};
+ghost use Rattle.runs.specs.Jitter.{start_at, distance as distance_of, deviation as deviation_of, no_track, noted, track_figures, note_start};
 ghost use Rattle.executive.specs.Executives.{lines_of, Tracked, AllTracked};
 
 use model::line::Line;
@@ -38,7 +38,7 @@ fn distance(a: u64, b: u64) -> u64
 // How far two starts that follow each other lie from being a period apart.
 fn deviation(line: &Line, a: Start, b: Start) -> u64
     requires { a.instant ≤ b.instant }
-    ensures { result ≡ deviationOf line.now a b }
+    ensures { result ≡ deviation_of line.now a b }
 {
     distance(b.instant - a.instant, line.period as u64)
 }

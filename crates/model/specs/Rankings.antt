@@ -31,7 +31,7 @@ pub record Ordered (ahead : Job → Job → Bool) : Type 0 where
 -- A regular job also goes ahead of an ordinary one of another line.
 pub record Lawful (ahead : Job → Job → Bool) : Type 0 where
   pub ordered : Ordered ahead
-  pub regular_first_lem : (a b : Job) → Sound a → Sound b → Others a b → regular_kind a.kind ≡ true → regular_kind b.kind ≡ false → ahead a b ≡ true
+  pub regular_first : (a b : Job) → Sound a → Sound b → Others a b → regular_kind a.kind ≡ true → regular_kind b.kind ≡ false → ahead a b ≡ true
 
 -- by the kinds of two jobs: a regular one before an ordinary one, else as `o` says
 abbrev by_kind : Bool → Bool → Bool → Bool

@@ -69,7 +69,7 @@ abbrev Roomy : List Line → ℕ → ℕ → Type 0
 Roomy ls x y = x < y → y < length ls → is_regular (get_or ls x blank) ≡ true → is_regular (get_or ls y blank) ≡ true → roomy_lines (get_or ls x blank) (get_or ls y blank) ≡ true
 
 -- places m and k of ls, where lines are counted from i, hold the first two lines that are too long for each other
-record FirstCrowded (i : ℕ) (ls : List Line) (pair : ℕ × ℕ) : Type 0 where
+record Short (i : ℕ) (ls : List Line) (pair : ℕ × ℕ) : Type 0 where
   m : ℕ
   k : ℕ
   order : m < k
@@ -82,9 +82,9 @@ record FirstCrowded (i : ℕ) (ls : List Line) (pair : ℕ × ℕ) : Type 0 wher
   lower : (x y : ℕ) → x < m → Roomy ls x y
   nearer : (y : ℕ) → y < k → Roomy ls m y
 
-first_crowded : (i : ℕ) (ls : List Line) (pair : ℕ × ℕ) → short_pair i ls ≡ Some pair → FirstCrowded i ls pair
-first_crowded i [] pair e = absurd (some_none pair (sym e))
-first_crowded i (a ∷ bs) pair e =
+short : (i : ℕ) (ls : List Line) (pair : ℕ × ℕ) → short_pair i ls ≡ Some pair → Short i ls pair
+short i [] pair e = absurd (some_none pair (sym e))
+short i (a ∷ bs) pair e =
     ⊎_elim
     (λ (h : cond (is_regular a) (short_with a i (i + 1) bs) None ≡ Some pair).
     let g = guard_some (is_regular a) (short_with a i (i + 1) bs) pair h in
@@ -103,7 +103,7 @@ first_crowded i (a ∷ bs) pair e =
       nearer = by_place (λ y. y < suc w.k → Roomy (a ∷ bs) 0 y) (λ _ l. absurd (omega arith)) (λ y l _ _ _ r. w.before y (omega arith) r);
     })
     (λ (h : (cond (is_regular a) (short_with a i (i + 1) bs) None ≡ None) × (short_pair (i + 1) bs ≡ Some pair)).
-    let w = first_crowded (i + 1) bs pair h.1 in
+    let w = short (i + 1) bs pair h.1 in
     record {
       m = suc w.m;
       k = suc w.k;
@@ -127,7 +127,7 @@ first_crowded i (a ∷ bs) pair e =
 
 pub never_apart : (ls : List Line) (pair : ℕ × ℕ) → short_pair 1 ls ≡ Some pair → FirstNeverApart ls pair
 never_apart ls pair e =
-    let w = first_crowded 1 ls pair e in
+    let w = short 1 ls pair e in
     let first : w.m ≡ pair.0 - 1 = omega (arith, w.first) in
     let second : w.k ≡ pair.1 - 1 = omega (arith, w.second) in
     let a = get_or ls w.m blank in

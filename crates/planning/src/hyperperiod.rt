@@ -4,7 +4,7 @@ ghost use Rattle.std.specs.Prelude.{◌≡◌, ℕ, ◌<◌, ◌≤◌, length, 
 ghost use Rattle.std.specs.List.{AllByRecursion};
 ghost use Rattle.model.specs.declared.fault.Fault.TheVariants.{HyperperiodTooLong};
 ghost use Rattle.windows.specs.Euclid.{lcm_of};
-ghost use Rattle.planning.specs.Hyperperiods.{hyperperiod as hyperperiodOf, passes_at, limit, IsHyperperiod, PassesFirst};
+ghost use Rattle.planning.specs.Hyperperiods.{hyperperiod as hyperperiod_of, passes_at, limit, IsHyperperiod, PassesFirst};
 ghost use Rattle.planning.specs.Plans.{refuse, AllPlanned};
 
 use model::fault::Fault;
@@ -28,9 +28,9 @@ fn extended(h: u32, period: u32) -> Option<u32>
 // Stops at the first line that passes the limit, so that no multiple overflows.
 pub(crate) fn hyperperiod(lines: &[Line]) -> Result<u32, Fault>
     requires { length lines.now ≤ 24 }
-    ensures value { result ≡ refuse (passes_at 1 1 lines.now) HyperperiodTooLong (Ok (hyperperiodOf lines.now)) }
-    ensures least { IsHyperperiod lines.now (hyperperiodOf lines.now) }
-    ensures within { AllByRecursion (λ l. 0 < l.period) lines.now → Decides (is_ok result) (hyperperiodOf lines.now ≤ limit) }
+    ensures value { result ≡ refuse (passes_at 1 1 lines.now) HyperperiodTooLong (Ok (hyperperiod_of lines.now)) }
+    ensures least { IsHyperperiod lines.now (hyperperiod_of lines.now) }
+    ensures within { AllByRecursion (λ l. 0 < l.period) lines.now → Decides (is_ok result) (hyperperiod_of lines.now ≤ limit) }
     ensures first { (n : ℕ) → result ≡ Err (HyperperiodTooLong n) → PassesFirst lines.now n }
 {
     let mut h = 1;
@@ -47,8 +47,8 @@ pub(crate) fn hyperperiod(lines: &[Line]) -> Result<u32, Fault>
 pub(crate) fn hyperperiod_of_plan(lines: &[Line]) -> u32
     requires few { length lines.now ≤ 24 }
     requires planned { AllPlanned lines.now }
-    requires short { hyperperiodOf lines.now ≤ limit }
-    ensures value { result ≡ hyperperiodOf lines.now }
+    requires short { hyperperiod_of lines.now ≤ limit }
+    ensures value { result ≡ hyperperiod_of lines.now }
     ensures range { (1 ≤ result) × (result ≤ 1000000) }
     ensures least { IsHyperperiod lines.now result }
 {

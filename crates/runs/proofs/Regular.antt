@@ -199,7 +199,7 @@ module _ (ls : List Line) (start : ℕ) (h : History) (s : State) (b : Basic ls 
     never_ahead i j p q apart reg ord first =
         let a = job_of (arrived s.clock (task_of s.tasks i)) in
         let c = job_of (arrived s.clock (task_of s.tasks j)) in
-        let back : ahead a c ≡ true = lawful.regular_first_lem a c (job_sound i p) (job_sound j q) (λ same. apart (omega (arith, same, (kept_now i p).number, (kept_now j q).number)))
+        let back : ahead a c ≡ true = lawful.regular_first a c (job_sound i p) (job_sound j q) (λ same. apart (omega (arith, same, (kept_now i p).number, (kept_now j q).number)))
         (subst (λ l. is_regular l ≡ true) (sym (kept_now i p).line) reg) (subst (λ l. is_regular l ≡ false) (sym (kept_now j q).line) ord) in
         both_ways (ahead c a) (lawful.ordered.exactly_one c a (job_sound j q) (job_sound i p) (λ same. apart (omega (arith, same, (kept_now i p).number, (kept_now j q).number))) ∙ ap not back) first
 

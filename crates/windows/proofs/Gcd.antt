@@ -57,3 +57,6 @@ gcd_comm a b = one_gcd {a = a} {b = b} (gcd_of a b) (gcd_of b a) (gcd_is a b) (l
 
 pub gcd_positive_left : (a b : ℕ) → 0 < a → 0 < gcd_of a b
 gcd_positive_left a b h = pos_of_dvd_of_pos (gcd_is a b).left h
+
+pub gcd_positive_right : (a b : ℕ) → 0 < b → 0 < gcd_of a b
+gcd_positive_right a b h = pos_of_dvd_of_pos (gcd_is a b).right h

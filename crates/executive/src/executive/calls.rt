@@ -3,7 +3,7 @@
 ghost use Rattle.std.specs.Prelude.{◌≡◌, ◌+◌, ◌^◌, ◌<◌, ◌≤◌, IfOk, vec_len};
 ghost use Rattle.runs.specs.Calls.{begun, last_of};
 ghost use Rattle.runs.specs.Histories.{start_of};
-ghost use Rattle.executive.specs.Changes.{counts_of as countsAt, counts_in};
+ghost use Rattle.executive.specs.Changes.{counts_of as counts_at, counts_in};
 ghost use Rattle.executive.specs.Views.{view_of, unit_or, done_or, Took};
 ghost use Rattle.runs.specs.declared.call.Call.TheVariants.{Step, EarlyEnd, Rest, Resume};
 
@@ -65,7 +65,7 @@ fn done_or(res: Result<(), Fault>) -> Reply
 }
 
 fn counts_of(task: &Task) -> CountsReport
-    ensures { result ≡ countsAt task.now }
+    ensures { result ≡ counts_at task.now }
 {
     CountsReport {
         made: task.counts.made,

@@ -7,14 +7,14 @@ use Rattle.runs.specs.Rehearsals.{load_of, last_offset, between_marks, rehearsal
 use Rattle.runs.proofs.NewTasks.{length_new_tasks}
 use Rattle.executive.proofs.Places.{length_tasks}
 use Rattle.runs.proofs.Rules.{only_rehearsed}
-use Rattle.executive.proofs.Running.{largest_offset_le}
+use Rattle.executive.proofs.Running.{last_offset_le}
 use Rattle.executive.proofs.rehearsal.rehearse_lines.Goals as goal
 
 pub between_marks-requires : goal.between_marks-requires
 between_marks-requires g c =
     let ls = c.args.lines.now in
     let few : length c.set_up.new.slots ≤ 24 = omega (arith, length_tasks c.set_up.new.slots, ap length c.set_up.ensures.tasks, length_new_tasks 1 ls, c.requires.1.0) in
-    (c.set_up.ensures.kept, (few, (sym c.set_up.auto.slots, omega (arith, c.last_offset.ensures, largest_offset_le ls c.requires.0, c.requires.1.1))))
+    (c.set_up.ensures.kept, (few, (sym c.set_up.auto.slots, omega (arith, c.last_offset.ensures, last_offset_le ls c.requires.0, c.requires.1.1))))
 
 pub returns-then-load-h : goal.returns-then-load-h
 returns-then-load-h g c =
