@@ -34,7 +34,7 @@ pub record Edges : Type 0 where
   -- 7 digits are a number, though too large a one; 8 digits and a leading zero are no number.
   pub digits_7 : read_sheet (codes "DM\nN a 9999999 1 1 1\n") ≡ Err (OutOfRange 1 3)
   pub digits_8 : read_sheet (codes "DM\nN a 10000000 1 1 1\n") ≡ Err (Malformed 1 3)
-  pub leading_zero_lem : read_sheet (codes "DM\nN a 01 1 1 1\n") ≡ Err (Malformed 1 3)
+  pub zero_in_front : read_sheet (codes "DM\nN a 01 1 1 1\n") ≡ Err (Malformed 1 3)
   -- C from 1, D from C and T from D, all up to 60,000.
   pub length_0 : read_sheet (codes "DM\nN a 0 0 1 1\n") ≡ Err (OutOfRange 1 4)
   pub deadline_below_length : read_sheet (codes "DM\nN a 0 2 1 2\n") ≡ Err (OutOfRange 1 5)
