@@ -1,10 +1,11 @@
 -- The number, the layer and the two places of every fault; a missing place is 0.
---   code      what is reported: a number, a layer and two places
---   code_of   what is reported of a fault
+--   code         what is reported: a number, a layer and two places
+--   code_of      what is reported of a fault
+--   fault_text   how a fault is printed
 use Rattle.model.specs.declared.fault.Fault.{Fault}
 use Rattle.model.specs.declared.fault.Fault.TheVariants.{TextTooLong, TextNotEnded, Malformed, OutOfRange, TooManyLines, TooManyRegular, HyperperiodTooLong, PairTooLong, NoOffsets, DeadlineTooShort, Overload, Missed, Unsettled, ClockAtEnd, NoJob, NoSuchLine, RegularLine, RestAsItIs, BufferTooSmall, NoMemory}
 use Rattle.model.specs.declared.fault.FaultCode.{FaultCode}
-use Rattle.std.specs.Prelude.{ℕ}
+use Rattle.std.specs.Prelude.{ℕ, List, ◌∷◌, ◌++◌, codes, decimal}
 
 abbrev pub code : ℕ → ℕ → ℕ → ℕ → FaultCode
 code n l p q = record { number = n; layer = l; first = p; second = q }
@@ -35,3 +36,8 @@ code_of (RestAsItIs line) = code 35 4 line 0
 -- layer 5, the surrounding program
 code_of BufferTooSmall = code 41 5 1024 0
 code_of NoMemory = code 0 5 0 0
+
+-- The word `fault` and the four figures, a space before each.
+abbrev pub fault_text : Fault → List ℕ
+fault_text f = let c : FaultCode = code_of f in
+    codes "fault" ++ 32 ∷ decimal c.number ++ 32 ∷ decimal c.layer ++ 32 ∷ decimal c.first ++ 32 ∷ decimal c.second

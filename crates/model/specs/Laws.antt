@@ -2,8 +2,10 @@
 use Rattle.std.specs.Prelude.{◌≡◌, ℕ, ◌+◌, Bool, nat_lt}
 use Rattle.std.proofs.Common.{arith, rules}
 use Rattle.std.proofs.lemmas.Bool.Decides.{nat_tests}
-use Rattle.model.specs.Rankings.{later, Ordered, Lawful, regular_first, smaller, dm_ahead, ed_ahead}
+use Rattle.model.specs.Rankings.{later, Ordered, Lawful, regular_first, smaller, dm_ahead, ed_ahead, ahead_of}
 use Rattle.model.specs.declared.job.Job.{Job}
+use Rattle.model.specs.declared.policy.Policy.{Policy}
+use Rattle.model.specs.declared.policy.Policy.TheVariants.{Dm, Ed}
 
 -- a key whose comparisons do not change when both jobs move
 module _ (key : Job → ℕ) (moved : (a b : Job) (n : ℕ) → nat_lt (key (later a n)) (key (later b n)) ≡ nat_lt (key a) (key b)) where
@@ -23,3 +25,7 @@ dm_lawful = regular_first_lawful (smaller (λ j. j.deadline)) (smaller_ordered (
 
 pub ed_lawful : Lawful ed_ahead
 ed_lawful = regular_first_lawful (smaller (λ j. j.release + j.deadline)) (smaller_ordered (λ j. j.release + j.deadline) (λ a b n. grind (arith, nat_tests)))
+
+pub policy_lawful : (p : Policy) → Lawful (ahead_of p)
+policy_lawful Dm = dm_lawful
+policy_lawful Ed = ed_lawful

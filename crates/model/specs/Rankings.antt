@@ -3,9 +3,12 @@
 --   Ordered, Lawful           the five properties
 --   regular_first, smaller    how the two rankings are made
 --   dm_ahead, ed_ahead        the two rankings
+--   ahead_of                  the ranking that a policy names
 --   KeyRule, DmRule, EdRule   what the rules say of them
 use Rattle.std.specs.Prelude.{◌≡◌, ℕ, ◌+◌, ◌^◌, ◌<◌, ◌≤◌, Bool, true, false, cond, not, ◌==◌, nat_lt}
 use Rattle.model.specs.declared.job.Job.{Job}
+use Rattle.model.specs.declared.policy.Policy.{Policy}
+use Rattle.model.specs.declared.policy.Policy.TheVariants.{Dm, Ed}
 use Rattle.model.specs.Ranges.{regular_kind}
 
 -- a job of a line from 1 to 24, released before 10^12
@@ -52,6 +55,10 @@ dm_ahead = regular_first (smaller (λ j. j.deadline))
 
 abbrev pub ed_ahead : Job → Job → Bool
 ed_ahead = regular_first (smaller (λ j. j.release + j.deadline))
+
+abbrev pub ahead_of : Policy → Job → Job → Bool
+ahead_of Dm = dm_ahead
+ahead_of Ed = ed_ahead
 
 -- Between jobs of different lines regular jobs go first, then the smaller key, then the lower line.
 pub record KeyRule (key : Job → ℕ) (ahead : Job → Job → Bool) : Type 0 where

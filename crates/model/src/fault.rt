@@ -1,7 +1,7 @@
 //! Every refusal of the product, as one type that `?` carries from where it arises to the printed line.
 
-ghost use Rattle.std.specs.Prelude.{◌≡◌};
-ghost use Rattle.model.specs.Faults.{code_of};
+ghost use Rattle.std.specs.Prelude.{◌≡◌, Some};
+ghost use Rattle.model.specs.Faults.{code_of, fault_text};
 ghost use Rattle.model.specs.declared.fault.Fault.TheVariants.{NoMemory};
 
 use std::alloc::AllocError;
@@ -37,7 +37,7 @@ pub enum Fault {
     NoMemory,
 }
 
-// A fault as it is reported: a missing place is 0.
+// A fault as it is reported. A missing place is 0 and no `Option`, since the printed line always has both.
 #[derive(Clone, Copy, PartialEq, Eq, Debug)]
 pub struct FaultCode {
     pub number: u32,
@@ -91,6 +91,8 @@ impl From<AllocError> for Fault {
 
 // The word `fault`, the number, the layer and the two places.
 impl fmt::Display for Fault {
+    ghost output = { λ f. Some (fault_text f) };
+
     fn fmt<W: fmt::Write>(&self, f: &mut fmt::Formatter<W>) -> fmt::Result {
         let FaultCode {
             number,

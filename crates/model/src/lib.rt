@@ -10,3 +10,6 @@ pub mod line;
 pub mod policy;
 pub mod ranking;
 pub mod rankings;
+pub mod tasks;
+#[cfg(test)]
+mod tests;

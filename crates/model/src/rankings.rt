@@ -1,12 +1,14 @@
-//! The two rankings that a sheet can name.
+//! The two rankings that a sheet can name, and the policy as the ranking that it names.
 
-ghost use Rattle.std.specs.Prelude.{◌≡◌};
-ghost use Rattle.model.specs.Rankings.{dm_ahead, ed_ahead, DmRule, EdRule};
-ghost use Rattle.model.specs.Laws.{dm_lawful, ed_lawful};
+ghost use Rattle.std.specs.Prelude.{◌≡◌, ℕ, ◌+◌};
+ghost use Rattle.model.specs.declared.job.Job.{Job};
+ghost use Rattle.model.specs.Rankings.{regular_first, smaller, dm_ahead, ed_ahead, ahead_of, DmRule, EdRule};
+ghost use Rattle.model.specs.Laws.{dm_lawful, ed_lawful, policy_lawful};
 
 use crate::job::Job;
-use crate::kind::Kind;
+use crate::policy::Policy;
 use crate::ranking::Ranking;
+use std::cmp::Reverse;
 
 // Regular jobs first, then the smaller deadline, then the lower line.
 #[derive(Clone, Copy)]
@@ -16,6 +18,21 @@ pub struct DeadlineMonotonic;
 #[derive(Clone, Copy)]
 pub struct EarliestDeadline;
 
+// Regular jobs first, then the smaller key, then the lower line; none goes ahead of one of its own line. The keys are
+// handed in as numbers: a closure for them would ask for a clause on what it gives.
+fn by_key(a: &Job, key_a: u128, b: &Job, key_b: u128) -> bool
+    ensures { (key : Job → ℕ) → key a.now ≡ key_a → key b.now ≡ key_b → result ≡ regular_first (smaller key) a.now b.now }
+{
+    a.line != b.line && (Reverse(a.kind), key_a, a.line) < (Reverse(b.kind), key_b, b.line)
+}
+
+// A sum of any release and deadline fits 128 bits.
+fn due(job: &Job) -> u128
+    ensures { result ≡ job.now.release + job.now.deadline }
+{
+    job.release as u128 + job.deadline as u128
+}
+
 impl Ranking for DeadlineMonotonic {
     ghost ahead = { λ _. dm_ahead };
 
@@ -24,14 +41,7 @@ impl Ranking for DeadlineMonotonic {
     fn goes_ahead(&self, a: &Job, b: &Job) -> bool
         ensures { result ≡ dm_ahead a.now b.now }
     {
-        if a.line == b.line {
-            return false;
-        }
-        match (a.kind, b.kind) {
-            (Kind::Regular, Kind::Ordinary) => true,
-            (Kind::Ordinary, Kind::Regular) => false,
-            _ => a.deadline < b.deadline || a.deadline == b.deadline && a.line < b.line,
-        }
+        by_key(a, a.deadline as u128, b, b.deadline as u128)
     }
 }
 
@@ -43,24 +53,27 @@ impl Ranking for EarliestDeadline {
     fn goes_ahead(&self, a: &Job, b: &Job) -> bool
         ensures { result ≡ ed_ahead a.now b.now }
     {
-        if a.line == b.line {
-            return false;
-        }
-        // a sum of any release and deadline fits 128 bits
-        let due_a = a.release as u128 + a.deadline as u128;
-        let due_b = b.release as u128 + b.deadline as u128;
-        match (a.kind, b.kind) {
-            (Kind::Regular, Kind::Ordinary) => true,
-            (Kind::Ordinary, Kind::Regular) => false,
-            _ => due_a < due_b || due_a == due_b && a.line < b.line,
+        by_key(a, due(a), b, due(b))
+    }
+}
+
+impl Ranking for Policy {
+    ghost ahead = { ahead_of };
+
+    ghost lawful = { policy_lawful };
+
+    fn goes_ahead(&self, a: &Job, b: &Job) -> bool
+        ensures { result ≡ ahead_of self.now a.now b.now }
+    {
+        match *self {
+            Policy::Dm => DeadlineMonotonic.goes_ahead(a, b),
+            Policy::Ed => EarliestDeadline.goes_ahead(a, b),
         }
     }
 }
 
 // The two relations are those that the rules describe, and no others.
-pub fn rankings_are_pinned() -> u8
+pub fn rankings_are_pinned()
     ensures dm { DmRule dm_ahead }
     ensures ed { EdRule ed_ahead }
-{
-    0
-}
+{}
