@@ -2,7 +2,7 @@
 
 #![tactic(auto)]
 
-ghost use Rattle.std.specs.Prelude.{◌≡◌, ◌<◌, Bool, length, MatchOption, slice_index_or};
+ghost use Rattle.std.specs.Prelude.{◌≡◌, Bool, length, MatchOption};
 ghost use Rattle.std.specs.List.{IsFirstBest};
 ghost use Rattle.std.specs.Cmp.{IsStrictWeakOrder};
 ghost use Rattle.entries.specs.Entries.{EntryAt, OnlyFirst, first_entry};
@@ -19,30 +19,21 @@ pub trait Entry {
     ghost ranks: { IsStrictWeakOrder before };
 }
 
-// The entry at place i goes before that at place `best`.
-fn overtakes<T: Entry>(entries: &[T], i: usize, best: usize) -> bool
-    requires { (i < length entries.now) × (best < length entries.now) }
-    ensures { (d : T) → result ≡ T.before (slice_index_or entries.now i d) (slice_index_or entries.now best d) }
-{
-    entries[i].is_before(&entries[best])
-}
-
-// The place of the first entry; of equal ones the lowest place.
+// The place of the first entry; of equal ones the lowest place. A loop: the proof of a `reduce` over the
+// numbered entries does not close.
+#[tactic(auto, using(crate::proofs::FirstPlaces::takes, crate::proofs::FirstPlaces::keeps))]
 pub fn first<T: Entry>(entries: &[T]) -> Option<usize>
     ensures first { MatchOption result (length entries.now ≡ 0) (λ i. IsFirstBest T.before entries.now (length entries.now) i) }
     ensures entry { EntryAt entries.now result (first_entry T.before entries.now) }
     ensures only { OnlyFirst T.before entries.now result }
 {
-    if entries.is_empty() {
-        return None;
-    }
-    let mut best = 0;
-    for i in 1..entries.len() {
-        if overtakes(entries, i, best) {
-            best = i;
+    let mut best = (0, entries.first()?);
+    for (i, entry) in entries.iter().enumerate() {
+        if entry.is_before(best.1) {
+            best = (i, entry);
         }
     }
-    Some(best)
+    Some(best.0)
 }
 
 // The first entry itself.

@@ -1,9 +1,8 @@
 -- The greatest common divisor of a and b is what some multiple of a is beyond some multiple of b.
-use Rattle.std.proofs.Common.{◌≡◌, ℕ, zero, suc, ◌+◌, ◌-◌, ◌*◌, ◌/◌, ◌%◌, ◌<◌, ◌≤◌, sym, ap, ◌∙◌, subst, ⊎_elim, mod-lt, mul_assoc, mul_comm, add-mul, mul-add, sub-add_cancel, mul_right_comm, le-mul_of_pos_right, arith}
+use Rattle.std.proofs.Common.{◌≡◌, ℕ, zero, suc, ◌+◌, ◌-◌, ◌*◌, ◌/◌, ◌%◌, ◌<◌, ◌≤◌, eqb, sym, ap, ◌∙◌, mod-lt, mul_assoc, mul_comm, add-mul, mul-add, sub-add_cancel, mul_right_comm, le-mul_of_pos_right, arith}
 use native.Mathlib.Nat.{div-add-mod}
-use Rattle.std.proofs.lemmas.Bool.{cases_lt}
-use Rattle.windows.specs.Euclid.{gcd_of}
-use Rattle.windows.proofs.Gcd.{gcd_last, gcd_step}
+use Rattle.std.proofs.lemmas.Bool.{cond_both, eqb-true, eqb-false}
+use Rattle.windows.specs.Euclid.{euclid, gcd_of}
 
 pub record Combined (a b g : ℕ) : Type 0 where
   pub s : ℕ
@@ -28,16 +27,15 @@ step_sum a b g s t e =
     let part : t * (a / b) * b ≡ t * (b * (a / b)) = mul_assoc t (a / b) b ∙ ap (λ x. t * x) (mul_comm (a / b) b) in
     omega (arith, add-mul s (t * (a / b)) b, whole, part, e)
 
-by_steps : (f a b : ℕ) → b < f → 0 < a → Combined a b (gcd_of a b)
+by_steps : (steps a b : ℕ) → b < steps → 0 < a → Combined a b (euclid steps a b)
 by_steps zero a b h pa = absurd (omega arith)
-by_steps (suc f) a b h pa =
-    ⊎_elim
-    (λ (pb : 0 < b).
-    let r = by_steps f b (a % b) (omega (arith, mod-lt a pb)) pb in
-    let g = gcd_of b (a % b) in
-    subst (Combined a b) (sym (gcd_step a b pb)) (turned a b g (r.s + r.t * (a / b)) r.t pa pb (step_sum a b g r.s r.t r.sum)))
-    (λ (no : b ≤ 0). subst (Combined a b) (sym (gcd_last a b (omega arith))) (record { s = 1; t = 0; sum = omega arith }))
-    (cases_lt 0 b)
+by_steps (suc steps) a b h pa =
+    cond_both (eqb b 0) a (euclid steps b (a % b)) (Combined a b)
+    (λ e. record { s = 1; t = 0; sum = omega (arith, eqb-true b 0 e) })
+    (λ e.
+    let some : 0 < b = omega (arith, eqb-false b 0 e) in
+    let r = by_steps steps b (a % b) (omega (arith, mod-lt a some)) some in
+    turned a b (euclid steps b (a % b)) (r.s + r.t * (a / b)) r.t pa some (step_sum a b (euclid steps b (a % b)) r.s r.t r.sum))
 
 pub bezout : (a b : ℕ) → 0 < a → Combined a b (gcd_of a b)
-bezout a b pa = by_steps (suc b) a b (omega arith) pa
+bezout a b pa = by_steps (b + 1) a b (omega arith) pa

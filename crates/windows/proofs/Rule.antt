@@ -1,8 +1,8 @@
 -- The pair test by the greatest common divisor is the rule of the windows.
-use Rattle.std.proofs.Common.{◌≡◌, ℕ, ◌+◌, ◌-◌, ◌*◌, ◌/◌, ◌%◌, ◌<◌, ◌≤◌, ◌&&◌, ltb, leb, Decides, sym, ap, ◌∙◌, subst, ⊎_elim, mod-lt, mod-eq_of_lt, mul_assoc, mul_comm, add-mul, mul-add, mul_right_comm, arith}
+use Rattle.std.proofs.Common.{◌≡◌, ℕ, ◌+◌, ◌-◌, ◌*◌, ◌/◌, ◌%◌, ◌<◌, ◌≤◌, Bool, Decides, sym, ap, ◌∙◌, subst, mod-lt, mod-eq_of_lt, add-mul, mul-add, mul_right_comm, arith}
+use Rattle.std.proofs.Math.Nat.{mul_left_comm}
 use native.Mathlib.Nat.{mul-div_cancel', div-add-mod, add-mul-mod_self_left}
-use Rattle.std.proofs.lemmas.Bool.{cases_lt}
-use Rattle.std.proofs.lemmas.Bool.Decides.{nat_tests, same_from_decides, Decides-like}
+use Rattle.std.proofs.lemmas.Bool.Decides.{nat_tests}
 use Rattle.model.specs.declared.line.Line.{Line}
 use Rattle.windows.specs.Euclid.{gcd_of}
 use Rattle.windows.specs.Windows.{Meet, Periodic, gap_of, apart_lines}
@@ -12,9 +12,6 @@ use Rattle.windows.proofs.Bezout.{Combined, bezout}
 same_rest : (p x z i j : ℕ) → x < p → z < p → x + p * i ≡ z + p * j → x ≡ z
 same_rest p x z i j hx hz e =
     sym (mod-eq_of_lt hx) ∙ sym (add-mul-mod_self_left x p i) ∙ ap (λ n. n % p) e ∙ add-mul-mod_self_left z p j ∙ mod-eq_of_lt hz
-
-pub between : (p x d y : ℕ) → 0 < p → Decides (ltb 0 p && (leb x d && leb (d + y) p)) ((x ≤ d) × (d + y ≤ p))
-between p x d y h = (λ e. (grind (arith, nat_tests), grind (arith, nat_tests)), λ q. grind (arith, nat_tests))
 
 -- multiples of the two periods that make up for any multiples of their greatest common divisor
 make_up : (s t n m : ℕ) → 0 < s → 0 < t → (k : ℕ) × (j : ℕ) × (k * s + gcd_of s t * n ≡ j * t + gcd_of s t * m)
@@ -68,17 +65,14 @@ module _ (a b : Line) (pa : Periodic a) (pb : Periodic b) where
       let x = u - (a.offset + k * a.period) in
       let y = u - (b.offset + j * b.period) in
       let g = gcd_is a.period b.period in
-      let ka : k * a.period ≡ p * (k * α) = ap (λ z. k * z) (sym (mul-div_cancel' p g.left)) ∙ swap k p α in
-      let jb : j * b.period ≡ p * (j * β) = ap (λ z. j * z) (sym (mul-div_cancel' p g.right)) ∙ swap j p β in
+      let ka : k * a.period ≡ p * (k * α) = ap (λ z. k * z) (sym (mul-div_cancel' p g.0)) ∙ mul_left_comm k p α in
+      let jb : j * b.period ≡ p * (j * β) = ap (λ z. j * z) (sym (mul-div_cancel' p g.1)) ∙ mul_left_comm j p β in
       let hx : x < a.length = omega (arith, h.3) in
       let hy : y < b.length = omega (arith, h.4) in
       let e : x + p * (k * α + n) ≡ (d + y) + p * (m + j * β) =
       omega (arith, h.3, h.4, ka, jb, tied, mul-add p (k * α) n, mul-add p m (j * β)) in
       let r : x ≡ d + y = same_rest p x (d + y) (k * α + n) (m + j * β) (omega (arith, low, small)) (omega (arith, high)) e in
       omega (arith, r, hx, low)
-    where
-      swap : (x y z : ℕ) → x * (y * z) ≡ y * (x * z)
-      swap x y z = sym (mul_assoc x y z) ∙ ap (λ w. w * z) (mul_comm x y) ∙ mul_assoc y x z
 
   meets_early : d < a.length → Meet a b
   unfolding p
@@ -97,18 +91,10 @@ module _ (a b : Line) (pa : Periodic a) (pb : Periodic b) where
 
   pub apart_means : Decides (apart_lines a b) (Meet a b → ⊥)
   unfolding p d
-  apart_means = (
-    λ e. let w = (between p a.length d b.length pos).0 e in never w.0 w.1,
-    λ none. (between p a.length d b.length pos).1 (
-      ⊎_elim (λ (l : d < a.length). absurd (none (meets_early l))) (λ (l : a.length ≤ d). l) (cases_lt d a.length),
-      ⊎_elim (λ (l : p < d + b.length). absurd (none (meets_late l))) (λ (l : d + b.length ≤ p). l) (cases_lt p (d + b.length)),
-    ),
-  )
+  apart_means = (λ e. never (grind (arith, nat_tests)) (grind (arith, nat_tests)), λ none. grind (arith, nat_tests, pos, none, meets_early, meets_late))
+
+pub apart_told : (a b : Line) (r : Bool) → r ≡ apart_lines a b → Periodic a → Periodic b → Decides r (Meet a b → ⊥)
+apart_told a b r e pa pb = rw e (apart_means a b pa pb)
 
 pub meet_sym : (a b : Line) → Meet a b → Meet b a
 meet_sym a b h = (h.0, h.2, h.1, h.4, h.3)
-
-pub apart_sym : (a b : Line) → Periodic a → Periodic b → apart_lines a b ≡ apart_lines b a
-apart_sym a b pa pb =
-    same_from_decides (apart_lines a b) (apart_lines b a) (apart_means a b pa pb)
-    (Decides-like (apart_lines b a) (λ none h. none (meet_sym a b h)) (λ none h. none (meet_sym b a h)) (apart_means b a pb pa))

@@ -2,10 +2,11 @@
 --   euclid   Euclid's rule, in so many steps
 --   gcd_of   the greatest common divisor, by Euclid's rule
 --   lcm_of   the least common multiple
---   IsGcd    what makes a number the greatest common divisor
+--   IsGcd    what makes a number the greatest common divisor, a word of std
 --   IsLcm    what makes a number the least common multiple
 use Rattle.std.specs.Prelude.{ℕ, zero, suc, ◌+◌, ◌*◌, ◌/◌, ◌%◌, cond, ◌==◌}
 use Rattle.std.specs.Int.{◌∣◌}
+pub use Rattle.std.specs.Int.{IsGcd}
 
 -- Euclid's rule: divide the first by the second, go on with the second and the remainder, down to
 -- a remainder of 0. The remainders fall below b, so b + 1 steps are enough.
@@ -20,12 +21,6 @@ gcd_of a b = euclid (b + 1) a b
 -- The least common multiple; it is 0 where a or b is.
 abbrev pub lcm_of : ℕ → ℕ → ℕ
 lcm_of a b = a / gcd_of a b * b
-
--- g divides both, and every number that divides both divides g.
-pub record IsGcd (a b g : ℕ) : Type 0 where
-  pub left : g ∣ a
-  pub right : g ∣ b
-  pub greatest : (d : ℕ) → d ∣ a → d ∣ b → d ∣ g
 
 -- Both divide m, and m divides every number that both divide.
 pub record IsLcm (a b m : ℕ) : Type 0 where

@@ -1,9 +1,10 @@
-use Rattle.std.proofs.Common.{sym, subst}
-use Rattle.windows.specs.Euclid.{IsLcm}
-use Rattle.windows.proofs.Lcm.{lcm_is, lcm_zero}
+use Rattle.std.proofs.Common.{◌*◌, ◌/◌, refl, arith}
+use Rattle.std.proofs.lemmas.Grind.{common_steps}
+use Rattle.windows.proofs.Lcm.{is_lcm}
 use Rattle.windows.proofs.euclid.lcm.Goals as goal
 
-pub returns-then-b-eq0 : goal.returns-then-b-eq0
-returns-then-b-eq0 c =
-    let e = lcm_zero c.args.a c.args.b c.if-b-eq0.true in
-    record { value = sym e; least = subst (IsLcm c.args.a c.args.b) e (lcm_is c.args.a c.args.b) }
+pub returns-then-b-eq0-clause-least : goal.returns-then-b-eq0-clause-least
+returns-then-b-eq0-clause-least c = is_lcm c.args.a c.args.b 0 (grind (arith, common_steps))
+
+pub returns-clause-least : goal.returns-clause-least
+returns-clause-least c = is_lcm c.args.a c.args.b (c.args.a / c.gcd.result * c.args.b) (rw c.gcd.ensures.value refl)
