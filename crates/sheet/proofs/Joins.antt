@@ -1,99 +1,72 @@
 -- Cutting undoes joining, and joining undoes cutting: lines by the byte 10, fields by a space.
-use Rattle.std.proofs.Common.{◌≡◌, ℕ, suc, ◌-◌, ◌<◌, true, cond, eqb, ◌⊎◌, List, [], ◌∷◌, ◌++◌, length, get_or, sym, refl, ap, ◌∙◌, inl, inr, ⊎_elim, arith, length-append}
-use Rattle.std.specs.List.{AllByRecursion}
-use Rattle.std.proofs.lemmas.Bool.{cond-true, cond-false, cond_both, eq-eqb, ne_eqb, eqb-true, eqb-false}
-use Rattle.sheet.specs.Cutting.{glue, lines_of, fields_of}
-use Rattle.sheet.specs.Grammar.{spaced}
+use Rattle.std.proofs.Common.{◌≡◌, ℕ, ◌-◌, ◌<◌, true, false, cond, eqb, List, [], ◌∷◌, ◌++◌, length, get_or, take, All, map, sym, refl, ap, ◌∙◌, append_assoc, arith, length-append, drop-cons}
+use Rattle.std.specs.List.{onto_first, slice_split, join_with_byte}
+use Rattle.std.proofs.lemmas.Bool.{eq-eqb, eqb-true}
+use Rattle.std.proofs.lemmas.Grind.{common_steps}
+use Rattle.std.proofs.lemmas.List.{take-append-drop}
+use Rattle.std.proofs.lemmas.List.Elements.{All-head, All-tail}
+use Rattle.std.proofs.lemmas.List.Splits.{slice_split_none, slice_split_at, join_with_byte-slice_split, length-slice_split}
+use Rattle.std.proofs.Math.Seq.{get_or-append_seam}
+use Rattle.sheet.specs.Cutting.{lines_of}
+use Rattle.sheet.specs.Grammar.{NamedTask, spaced, task_words, tasks_text, policy_word, sheet_text}
 use Rattle.sheet.specs.Reading.{is_ended}
-use Rattle.sheet.proofs.Cuts.{CutsAt}
+use Rattle.model.specs.declared.policy.Policy.{Policy}
+
+-- no byte of a part is the separator
+abbrev pub Uncut : ℕ → List ℕ → Type 0
+Uncut c = All (λ b. eqb b c ≡ false)
+
+pub split_joined : (c : ℕ) (w : List ℕ) (ws : List (List ℕ)) → All (Uncut c) (w ∷ ws) → slice_split (λ b. eqb b c) (join_with_byte c (w ∷ ws)) ≡ w ∷ ws
+split_joined c w [] h = slice_split_none _ w (All-head (Uncut c) w [] h)
+split_joined c w (v ∷ ws) h =
+    slice_split_at (λ b. eqb b c) w c (join_with_byte c (v ∷ ws)) (All-head (Uncut c) w (v ∷ ws) h) (eq-eqb c c refl)
+    ∙ ap (λ ps. w ∷ ps) (split_joined c v ws (All-tail (Uncut c) w (v ∷ ws) h))
 
 -- each line with the byte that ends it
 abbrev pub ended : List (List ℕ) → List ℕ
 ended [] = []
 ended (l ∷ ls) = l ++ 10 ∷ ended ls
 
--- a part without the separator is cut off whole
-pub cut_joined : (sep : ℕ) (cut : List ℕ → List (List ℕ)) → CutsAt sep cut → (l rest : List ℕ) → AllByRecursion (λ b. b ≡ sep → ⊥) l → cut (l ++ sep ∷ rest) ≡ l ∷ cut rest
-cut_joined sep cut step [] rest none = step sep rest ∙ cond-true (eqb sep sep) _ _ (eq-eqb sep sep refl)
-cut_joined sep cut step (b ∷ bs) rest none =
-    step b (bs ++ sep ∷ rest) ∙ cond-false (eqb b sep) _ _ (ne_eqb b sep none.0) ∙ ap (glue b) (cut_joined sep cut step bs rest none.1)
+ended_joined : (ls : List (List ℕ)) → 0 < length ls → ended ls ≡ join_with_byte 10 ls ++ 10 ∷ []
+ended_joined [] some = absurd (omega arith)
+ended_joined (l ∷ []) some = refl
+ended_joined (l ∷ k ∷ ls) some = ap (λ t. l ++ 10 ∷ t) (ended_joined (k ∷ ls) (omega arith)) ∙ sym (append_assoc l (10 ∷ join_with_byte 10 (k ∷ ls)) (10 ∷ []))
 
-pub fields_alone : (l : List ℕ) → AllByRecursion (λ b. b ≡ 32 → ⊥) l → fields_of l ≡ l ∷ []
-fields_alone [] none = refl
-fields_alone (b ∷ bs) none = cond-false (eqb b 32) _ _ (ne_eqb b 32 none.0) ∙ ap (glue b) (fields_alone bs none.1)
+lines_split : (bs : List ℕ) → lines_of (bs ++ 10 ∷ []) ≡ slice_split (λ b. eqb b 10) bs
+lines_split [] = refl
+lines_split (b ∷ bs) = ap (λ ps. cond (eqb b 10) ([] ∷ ps) (onto_first b ps)) (lines_split bs)
 
-pub fields_spaced : (w : List ℕ) (ws : List (List ℕ)) → AllByRecursion (AllByRecursion (λ b. b ≡ 32 → ⊥)) (w ∷ ws) → fields_of (spaced (w ∷ ws)) ≡ w ∷ ws
-fields_spaced w [] none = fields_alone w none.0
-fields_spaced w (v ∷ ws) none = cut_joined 32 fields_of (λ _ _. refl) w (spaced (v ∷ ws)) none.0 ∙ ap (λ ps. w ∷ ps) (fields_spaced v ws none.1)
+pub lines_ended : (l : List ℕ) (ls : List (List ℕ)) → All (Uncut 10) (l ∷ ls) → (lines_of (ended (l ∷ ls)) ≡ l ∷ ls) × (is_ended (ended (l ∷ ls)) ≡ true)
+lines_ended l ls h =
+    let text = join_with_byte 10 (l ∷ ls) in
+    let e = ended_joined (l ∷ ls) (omega arith) in
+    let last : length (text ++ 10 ∷ []) - 1 ≡ length text = simp length-append (omega arith) in
+    (ap lines_of e ∙ lines_split text ∙ split_joined 10 l ls h, ap is_ended e ∙ ap (λ i. eqb (get_or (text ++ 10 ∷ []) i 0) 10) last ∙ ap (λ b. eqb b 10) (get_or-append_seam text 10 [] 0))
 
--- the other way round
-spaced_first : (ps : List (List ℕ)) → 0 < length ps → spaced ([] ∷ ps) ≡ 32 ∷ spaced ps
-spaced_first [] some = absurd (omega arith)
-spaced_first (p ∷ ps) some = refl
+-- a text that is ended is what stands before its last byte, and that byte
+body : (text : List ℕ) → is_ended text ≡ true → text ≡ take (length text - 1) text ++ 10 ∷ []
+body [] e = absurd (omega (arith, eqb-true 0 10 e))
+body (b ∷ bs) e =
+    let text = b ∷ bs in
+    let n = length text - 1 in
+    let last : get_or text n 0 ≡ 10 = eqb-true _ 10 e in
+    grind (arith, common_steps, take-append-drop n text, drop-cons text n 0 (omega arith), last)
 
-spaced_glue : (b : ℕ) (ps : List (List ℕ)) → 0 < length ps → spaced (glue b ps) ≡ b ∷ spaced ps
-spaced_glue b [] some = absurd (omega arith)
-spaced_glue b (p ∷ []) some = refl
-spaced_glue b (p ∷ q ∷ ps) some = refl
+pub ended_lines : (text : List ℕ) → is_ended text ≡ true → ended (lines_of text) ≡ text
+ended_lines text e =
+    let front = take (length text - 1) text in
+    let b = body text e in
+    let lines = slice_split (λ c. eqb c 10) front in
+    ap (λ t. ended (lines_of t)) b ∙ ap ended (lines_split front) ∙ ended_joined lines (omega (arith, length-slice_split (λ c. eqb c 10) front))
+    ∙ ap (λ t. t ++ 10 ∷ []) (join_with_byte-slice_split 10 front) ∙ sym b
 
-glue_some : (b : ℕ) (ps : List (List ℕ)) → 0 < length (glue b ps)
-glue_some b [] = omega arith
-glue_some b (p ∷ ps) = omega arith
+-- a task's line without the byte that ends it
+abbrev pub line_text : NamedTask → List ℕ
+line_text t = spaced (task_words t)
 
--- by whether a byte is the separator
-by_byte : (b sep : ℕ) (x y : List (List ℕ)) (P : List (List ℕ) → Type 0) → (b ≡ sep → P x) → ((b ≡ sep → ⊥) → P y) → P (cond (eqb b sep) x y)
-by_byte b sep x y P at-sep elsewhere = cond_both (eqb b sep) x y P (λ e. at-sep (eqb-true b sep e)) (λ e. elsewhere (eqb-false b sep e))
+tasks_ended : (ts : List NamedTask) → tasks_text ts ≡ ended (map line_text ts)
+tasks_ended [] = refl
+tasks_ended (t ∷ ts) = append_assoc (line_text t) (10 ∷ []) (tasks_text ts) ∙ ap (λ x. line_text t ++ 10 ∷ x) (tasks_ended ts)
 
-fields_some : (l : List ℕ) → 0 < length (fields_of l)
-fields_some [] = omega arith
-fields_some (b ∷ bs) = by_byte b 32 _ _ (λ ps. 0 < length ps) (λ _. omega arith) (λ _. glue_some b (fields_of bs))
-
-pub spaced_fields : (l : List ℕ) → spaced (fields_of l) ≡ l
-spaced_fields [] = refl
-spaced_fields (b ∷ bs) =
-    by_byte b 32 _ _ (λ ps. spaced ps ≡ b ∷ bs)
-    (λ e. spaced_first (fields_of bs) (fields_some bs) ∙ ap (λ t. 32 ∷ t) (spaced_fields bs) ∙ ap (λ c. c ∷ bs) (sym e))
-    (λ _. spaced_glue b (fields_of bs) (fields_some bs) ∙ ap (λ t. b ∷ t) (spaced_fields bs))
-
--- a text of lines is empty, or its last byte is 10
-abbrev pub Closed : List ℕ → Type 0
-Closed text = (text ≡ []) ⊎ (is_ended text ≡ true)
-
-ended_more : (b : ℕ) (bs : List ℕ) → 0 < length bs → is_ended (b ∷ bs) ≡ is_ended bs
-ended_more b [] some = absurd (omega arith)
-ended_more b (c ∷ cs) some =
-    let one : length (b ∷ c ∷ cs) - 1 ≡ suc (length cs) = omega arith in
-    let two : length (c ∷ cs) - 1 ≡ length cs = omega arith in
-    ap (λ i. eqb (get_or (b ∷ c ∷ cs) i 0) 10) one ∙ sym (ap (λ i. eqb (get_or (c ∷ cs) i 0) 10) two)
-
-pub closed_more : (l rest : List ℕ) → Closed rest → is_ended (l ++ 10 ∷ rest) ≡ true
-closed_more [] [] c = refl
-closed_more [] (b ∷ bs) c = ⊎_elim (λ e. absurd (omega (arith, ap length e))) (λ e. ended_more 10 (b ∷ bs) (omega arith) ∙ e) c
-closed_more (a ∷ l) rest c = ended_more a (l ++ 10 ∷ rest) (simp length-append (omega arith)) ∙ closed_more l rest c
-
-lines_some : (b : ℕ) (bs : List ℕ) → 0 < length (lines_of (b ∷ bs))
-lines_some b bs = by_byte b 10 _ _ (λ ps. 0 < length ps) (λ _. omega arith) (λ _. glue_some b (lines_of bs))
-
-ended_glue : (b : ℕ) (ps : List (List ℕ)) → 0 < length ps → ended (glue b ps) ≡ b ∷ ended ps
-ended_glue b [] some = absurd (omega arith)
-ended_glue b (p ∷ ps) some = refl
-
--- what follows the first byte of such a text
-closed_rest : (b : ℕ) (bs : List ℕ) → is_ended (b ∷ bs) ≡ true → Closed bs
-closed_rest b [] e = inl refl
-closed_rest b (c ∷ cs) e = inr (sym (ended_more b (c ∷ cs) (omega arith)) ∙ e)
-
-closed_is : (b : ℕ) (bs : List ℕ) → Closed (b ∷ bs) → is_ended (b ∷ bs) ≡ true
-closed_is b bs c = ⊎_elim (λ e. absurd (omega (arith, ap length e))) (λ e. e) c
-
-pub ended_lines : (text : List ℕ) → Closed text → ended (lines_of text) ≡ text
-ended_lines [] c = refl
-ended_lines (b ∷ []) c =
-    by_byte b 10 _ _ (λ ps. ended ps ≡ b ∷ [])
-    (λ e. ap (λ x. x ∷ []) (sym e))
-    (λ ne. absurd (ne (eqb-true b 10 (closed_is b [] c))))
-ended_lines (b ∷ d ∷ bs) c =
-    let rest = ended_lines (d ∷ bs) (closed_rest b (d ∷ bs) (closed_is b (d ∷ bs) c)) in
-    by_byte b 10 _ _ (λ ps. ended ps ≡ b ∷ d ∷ bs)
-    (λ e. ap (λ t. 10 ∷ t) rest ∙ ap (λ x. x ∷ d ∷ bs) (sym e))
-    (λ ne. ended_glue b (lines_of (d ∷ bs)) (lines_some d bs) ∙ ap (λ t. b ∷ t) rest)
+pub sheet_ended : (p : Policy) (ts : List NamedTask) → sheet_text p ts ≡ ended (policy_word p ∷ map line_text ts)
+sheet_ended p ts = ap (λ x. policy_word p ++ 10 ∷ x) (tasks_ended ts)

@@ -5,6 +5,5 @@ pub mod LinesRead
 pub mod Numbers
 pub mod Only
 pub mod ReadIffAdmitted
+pub mod Regulars
 pub mod Steps
-pub mod Taken
-pub mod Walks

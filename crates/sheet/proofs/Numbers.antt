@@ -1,22 +1,24 @@
 -- A number is read back from what `decimal` writes of it, and nothing else is read as that number.
-use Rattle.std.proofs.Common.{◌≡◌, ℕ, ◌^◌, ◌<◌, ◌≤◌, true, false, not, ◌&&◌, leb, List, length, get_or, Some, decimal, sym, ap, ◌∙◌, subst, ⊎_elim, arith, rules}
-use Rattle.std.specs.Int.{is_in_range}
-use Rattle.std.specs.Str.{all_ascii_digits}
-use Rattle.std.proofs.lemmas.Fmt.{digits_decimal, digits_value-decimal, decimal_nonempty, length-decimal-le, first_decimal, decimal-digits_value, decimal_digit}
-use Rattle.std.proofs.lemmas.Str.Parse.{IsNumeralModel, numerals_by_fold, digits_value_short}
-use Rattle.std.proofs.lemmas.Bool.{and_parts, and_from, and_left, leb-true, ne_eqb, not-true, cond-true, cond-false, cases_eq, cases_Bool}
+use Rattle.std.proofs.Common.{◌≡◌, ℕ, ◌^◌, ◌<◌, ◌≤◌, true, false, List, length, get_or, refl, Some, Ok, Result, decimal, sym, ap, ◌∙◌, ⊎_elim, arith, rules}
+use Rattle.std.specs.Char.{is_ascii_digit}
+use Rattle.std.specs.List.{list_all}
+use Rattle.std.specs.Str.{IsUtf8}
+use Rattle.std.specs.Str.Parse.{ParsesUnsigned}
+use Rattle.std.proofs.lemmas.Str.{IsUtf8-from_ascii}
+use Rattle.std.proofs.lemmas.Fmt.{IsAscii-from_digits, digits_decimal, digits_value-decimal, decimal_nonempty, length-decimal-le, first_decimal, decimal-digits_value, decimal_digit}
+use Rattle.std.proofs.lemmas.Str.Parse.{IsNumeralModel, numerals_by_fold, digits_value_short, parse_gives}
+use Rattle.std.proofs.lemmas.Bool.{cases_eq}
 use Rattle.std.proofs.lemmas.Bool.Decides.{nat_tests}
-use Rattle.sheet.proofs.Taken.{some_same, none_some}
 use Rattle.sheet.specs.Reading.{is_number, leading_zero, value_from, number_of}
 
-pub own : IsNumeralModel (λ ds. all_ascii_digits ds ≡ true) (value_from 0)
+pub own : IsNumeralModel (λ ds. list_all is_ascii_digit ds ≡ true) (value_from 0)
 own = numerals_by_fold _ (search rules) value_from (search rules)
 
 no_leading_zero : (n : ℕ) → n ≤ 60000 → leading_zero (decimal n) ≡ false
 no_leading_zero n few =
     ⊎_elim
-    (λ e. subst (λ m. leading_zero (decimal m) ≡ false) (sym e) (ap leading_zero (decimal_digit 0 (omega arith))))
-    (λ ne. let first = first_decimal n (omega arith) (omega arith) in and_left _ _ (ne_eqb (get_or (decimal n) 0 0) 48 (λ e. omega arith)))
+    (λ (e : n ≡ 0). rw (e, decimal_digit 0 (omega arith)) refl)
+    (λ (ne : n ≡ 0 → ⊥). let first = first_decimal n (omega arith) (omega arith) in grind (arith, nat_tests))
     (cases_eq n 0)
 
 pub number_decimal : (n : ℕ) → n ≤ 60000 → number_of (decimal n) ≡ Some n
@@ -24,25 +26,34 @@ number_decimal n few =
     let small : n < 2 ^ 64 = omega arith in
     let long = decimal_nonempty n small in
     let short : length (decimal n) ≤ 5 = length-decimal-le 5 n (omega arith) (omega arith) small in
-    let size : is_in_range 1 7 (length (decimal n)) ≡ true = grind (arith, nat_tests) in
-    let form : is_number (decimal n) ≡ true = and_from _ _ (and_from _ _ size (ap not (no_leading_zero n few))) (digits_decimal own n small) in
-    cond-true (is_number (decimal n)) _ _ form ∙ ap Some (digits_value-decimal own n small)
+    let lead = no_leading_zero n few in
+    let digits = digits_decimal own n small in
+    let value = digits_value-decimal own n small in
+    grind (arith, nat_tests)
+
+-- what the bytes of a number are
+record Form (bs : List ℕ) : Type 0 where
+  some : 1 ≤ length bs
+  short : length bs ≤ 7
+  lead : leading_zero bs ≡ false
+  digits : list_all is_ascii_digit bs ≡ true
+
+form_of : (bs : List ℕ) → is_number bs ≡ true → Form bs
+form_of bs e = record { some = grind (arith, nat_tests); short = grind (arith, nat_tests); lead = grind (arith, nat_tests); digits = grind (arith, nat_tests) }
+
+pub number_text : (bs : List ℕ) → is_number bs ≡ true → IsUtf8 bs
+number_text bs e = IsUtf8-from_ascii bs (IsAscii-from_digits bs (own.to bs (form_of bs e).digits))
+
+pub number_parsed : {E : Type 0} (bs : List ℕ) (r : Result ℕ E) → is_number bs ≡ true → ParsesUnsigned 32 10 bs r → r ≡ Ok (value_from 0 bs)
+number_parsed bs r e h = let f = form_of bs e in parse_gives own 32 bs r h f.digits (omega arith) (omega (arith, digits_value_short own bs 7 f.digits f.short))
 
 alone : (bs : List ℕ) → get_or bs 0 0 ≡ 48 → leading_zero bs ≡ false → 1 ≤ length bs → length bs ≡ 1
 alone bs z lead some = grind (arith, nat_tests)
 
 pub number_is : (bs : List ℕ) (n : ℕ) → number_of bs ≡ Some n → bs ≡ decimal n
 number_is bs n e =
-    ⊎_elim
-    (λ form.
-    let value : value_from 0 bs ≡ n = some_same (sym (cond-true (is_number bs) _ _ form) ∙ e) in
-    let parts = and_parts (is_in_range 1 7 (length bs) && not (leading_zero bs)) (all_ascii_digits bs) form in
-    let first = and_parts (is_in_range 1 7 (length bs)) (not (leading_zero bs)) parts.0 in
-    let size = and_parts (leb 1 (length bs)) (leb (length bs) 7) first.0 in
-    let low = leb-true 1 (length bs) size.0 in
-    let high = leb-true (length bs) 7 size.1 in
-    let lead : leading_zero bs ≡ false = not-true (leading_zero bs) first.1 in
-    let bound = digits_value_short own bs 7 parts.1 high in
-    sym (decimal-digits_value own bs parts.1 low (λ z. alone bs z lead low) (omega arith)) ∙ ap decimal value)
-    (λ no'. absurd (none_some (sym (cond-false (is_number bs) _ _ no') ∙ e)))
-    (cases_Bool (is_number bs))
+    let form : is_number bs ≡ true = grind (arith, nat_tests) in
+    let value : value_from 0 bs ≡ n = grind (arith, nat_tests) in
+    let f = form_of bs form in
+    let bound = digits_value_short own bs 7 f.digits f.short in
+    sym (decimal-digits_value own bs f.digits f.some (λ z. alone bs z f.lead f.some) (omega arith)) ∙ ap decimal value

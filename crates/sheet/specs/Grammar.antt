@@ -8,8 +8,8 @@
 --   Admits                    a text is the sheet of a policy and its tasks
 --   Admitted                  a text is a sheet
 --   Says                      what a sheet says
-use Rattle.std.specs.Prelude.{◌≡◌, ℕ, ◌≤◌, true, List, [], ◌∷◌, ◌++◌, map, length, decimal}
-use Rattle.std.specs.List.{AllByRecursion}
+use Rattle.std.specs.Prelude.{◌≡◌, ℕ, ◌≤◌, true, List, [], ◌∷◌, ◌++◌, map, length, All, decimal}
+use Rattle.std.specs.List.{concat, join_with_byte}
 use Rattle.model.specs.declared.kind.Kind.{Kind}
 use Rattle.model.specs.declared.kind.Kind.TheVariants.{Ordinary, Regular}
 use Rattle.model.specs.declared.line.Line.{Line}
@@ -31,9 +31,7 @@ letter Regular = 82
 
 -- Words with a single space between each two.
 abbrev pub spaced : List (List ℕ) → List ℕ
-spaced [] = []
-spaced (w ∷ []) = w
-spaced (w ∷ v ∷ ws) = w ++ 32 ∷ spaced (v ∷ ws)
+spaced = join_with_byte 32
 
 -- Kind, name, first release, length, deadline and period.
 abbrev pub task_words : NamedTask → List (List ℕ)
@@ -45,8 +43,7 @@ task_text t = spaced (task_words t) ++ 10 ∷ []
 
 -- One line behind the other.
 abbrev pub tasks_text : List NamedTask → List ℕ
-tasks_text [] = []
-tasks_text (t ∷ ts) = task_text t ++ tasks_text ts
+tasks_text ts = concat (map task_text ts)
 
 -- `DM` or `ED`.
 abbrev pub policy_word : Policy → List ℕ
@@ -71,7 +68,7 @@ pub record Admits (text : List ℕ) (p : Policy) (ts : List NamedTask) : Type 0 
   pub short : length text ≤ 4096
   pub few : length ts ≤ 24
   pub limited : regulars (lines_of_tasks ts) ≤ 8
-  pub sound : AllByRecursion Sound ts
+  pub sound : All Sound ts
 
 -- Some policy and tasks have this text.
 abbrev pub Admitted : List ℕ → Type 0

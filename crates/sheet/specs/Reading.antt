@@ -8,10 +8,10 @@
 --   policy_of, read_policy    line 0
 --   read_lines                all lines
 --   is_ended, read_sheet      a whole text
-use Rattle.std.specs.Prelude.{ℕ, ◌+◌, ◌-◌, ◌*◌, Bool, true, cond, not, ◌&&◌, List, [], ◌∷◌, ◌++◌, length, drop, Some, None, Ok, Err, Option, Result, ◌==◌, nat_le, nat_lt, slice_index}
+use Rattle.std.specs.Prelude.{ℕ, ◌+◌, ◌-◌, ◌*◌, Bool, cond, not, ◌&&◌, List, [], ◌∷◌, ◌++◌, length, drop, Some, None, Ok, Err, Option, Result, ◌==◌, nat_le, nat_lt, slice_index}
 use Rattle.std.specs.Int.{is_in_range}
-use Rattle.std.specs.Char.{is_ascii_alphanumeric}
-use Rattle.std.specs.Str.{all_ascii_digits}
+use Rattle.std.specs.Char.{is_ascii_alphanumeric, is_ascii_digit}
+use Rattle.std.specs.List.{list_all}
 use Rattle.model.specs.declared.fault.Fault.{Fault}
 use Rattle.model.specs.declared.fault.Fault.TheVariants.{TextTooLong, TextNotEnded, Malformed, OutOfRange, TooManyLines, TooManyRegular}
 use Rattle.model.specs.declared.kind.Kind.{Kind}
@@ -36,8 +36,7 @@ kind_of (b ∷ c ∷ bs) = None
 
 -- Nothing but letters and digits.
 abbrev pub all_name_bytes : List ℕ → Bool
-all_name_bytes [] = true
-all_name_bytes (b ∷ bs) = is_ascii_alphanumeric b && all_name_bytes bs
+all_name_bytes = list_all is_ascii_alphanumeric
 
 -- A name is 1 to 12 letters A to Z, a to z or digits.
 abbrev pub is_name : List ℕ → Bool
@@ -49,7 +48,7 @@ leading_zero bs = slice_index bs 0 == 48 && nat_lt 1 (length bs)
 
 -- A number is 1 to 7 digits with no leading zero.
 abbrev pub is_number : List ℕ → Bool
-is_number bs = (is_in_range 1 7 (length bs) && not (leading_zero bs)) && all_ascii_digits bs
+is_number bs = (is_in_range 1 7 (length bs) && not (leading_zero bs)) && list_all is_ascii_digit bs
 
 -- The value of digits behind those that were read as n.
 abbrev pub value_from : ℕ → List ℕ → ℕ
@@ -80,14 +79,14 @@ abbrev pub read_end : ℕ → List (List ℕ) → Result (Unit {0}) Fault
 read_end line [] = Ok tt
 read_end line (p ∷ ps) = Err (Malformed line 7)
 
--- The figures of a task line, from its third field on, and nothing behind them.
+-- The figures of a task line, given its third field and those behind it, and nothing behind them.
 abbrev pub read_figures : ℕ → Kind → List (List ℕ) → Result Line Fault
 read_figures line kind fields =
-    and_then (read_number line 3 0 (drop 2 fields)) (λ r.
-    and_then (read_number line 4 1 (drop 3 fields)) (λ c.
-    and_then (read_number line 5 c (drop 4 fields)) (λ d.
-    and_then (read_number line 6 d (drop 5 fields)) (λ t.
-    and_then (read_end line (drop 6 fields)) (λ _.
+    and_then (read_number line 3 0 fields) (λ r.
+    and_then (read_number line 4 1 (drop 1 fields)) (λ c.
+    and_then (read_number line 5 c (drop 2 fields)) (λ d.
+    and_then (read_number line 6 d (drop 3 fields)) (λ t.
+    and_then (read_end line (drop 4 fields)) (λ _.
     Ok (record { kind = kind; offset = r; length = c; deadline = d; period = t }))))))
 
 -- The fields of a task line in order; `full` says that eight regular lines stand before it.
@@ -95,12 +94,7 @@ abbrev pub read_fields : ℕ → Bool → List (List ℕ) → Result Line Fault
 read_fields line full fields =
     and_then (read_kind line full fields) (λ kind.
     and_then (read_name line (drop 1 fields)) (λ _.
-    and_then (read_number line 3 0 (drop 2 fields)) (λ r.
-    and_then (read_number line 4 1 (drop 3 fields)) (λ c.
-    and_then (read_number line 5 c (drop 4 fields)) (λ d.
-    and_then (read_number line 6 d (drop 5 fields)) (λ t.
-    and_then (read_end line (drop 6 fields)) (λ _.
-    Ok (record { kind = kind; offset = r; length = c; deadline = d; period = t }))))))))
+    read_figures line kind (drop 2 fields)))
 
 -- A task line is cut into its fields first.
 abbrev pub read_line : ℕ → Bool → List ℕ → Result Line Fault

@@ -3,7 +3,7 @@
 
 #![tactic(auto)]
 
-mod cutting;
+pub mod cutting;
 pub mod field;
 pub mod reader;
 pub mod sheet;

@@ -1,6 +1,8 @@
-//! The reader of a line: it hands out field by field, and reads them as a task.
+//! The reader of a line: it hands out field by field, and reads them as a task. That a reading took one field
+//! (`moved`) is a clause of each reading: it is what that reading did, and no fact of the type.
 
 ghost use Rattle.std.specs.Prelude.{◌≡◌, ◌<◌, OnOk};
+ghost use Rattle.std.specs.Iterator.{item_count};
 ghost use Rattle.model.specs.declared.fault.Fault.TheVariants.{Malformed};
 ghost use Rattle.sheet.specs.Cutting.{fields_of};
 ghost use Rattle.sheet.specs.FieldReader.{left, Yields, Moved};
@@ -24,28 +26,28 @@ pub fn fields(text: &[u8], line: u32) -> Fields<'_>
     }
 }
 
-impl<'a> Fields<'a> {
+impl<'a> Iterator for Fields<'a> {
+    type Item = Field<'a>;
+
+    ghost next_gives = { Yields };
+
+    ghost remaining = { item_count left };
+
     // The next field, cut off at the next space; `None` behind the last.
-    pub fn next_field(&mut self) -> Option<Field<'a>>
-        ensures { Yields self.old result self.new }
-    {
-        let Some(s) = self.rest else {
-            return None;
-        };
-        let (part, rest) = first_field(s);
+    fn next(&mut self) -> Option<Field<'a>> {
+        let (part, rest) = first_field(self.rest?);
         let place = self.place;
         self.rest = rest;
-        self.place = Place {
-            line: place.line,
-            field: place.field.saturating_add(1),
-        };
+        self.place.field = place.field.saturating_add(1);
         match place.field {
             1 => Some(Field::Kind(part, place)),
             2 => Some(Field::Name(part, place)),
             _ => Some(Field::Number(part, place)),
         }
     }
+}
 
+impl Fields<'_> {
     // The fault of a field that is missing, superfluous or not in its form.
     fn malformed(&self) -> Fault
         ensures { result ≡ Malformed self.now.place.line self.now.place.field }
@@ -63,7 +65,7 @@ impl<'a> Fields<'a> {
         ensures moved { OnOk result (Moved self.old self.new) }
     {
         let malformed = self.malformed();
-        let Some(Field::Kind(part, place)) = self.next_field() else {
+        let Some(Field::Kind(part, place)) = self.next() else {
             return Err(malformed);
         };
         match kind_of(part) {
@@ -80,7 +82,7 @@ impl<'a> Fields<'a> {
         ensures moved { OnOk result (Moved self.old self.new) }
     {
         let malformed = self.malformed();
-        match self.next_field() {
+        match self.next() {
             Some(Field::Name(part, _)) if is_name(part) => Ok(()),
             _ => Err(malformed),
         }
@@ -93,13 +95,11 @@ impl<'a> Fields<'a> {
         ensures moved { OnOk result (Moved self.old self.new) }
     {
         let malformed = self.malformed();
-        let Some(Field::Number(part, place)) = self.next_field() else {
+        let Some(Field::Number(part, place)) = self.next() else {
             return Err(malformed);
         };
-        let Some(n) = number_of(part) else {
-            return Err(malformed);
-        };
-        if low <= n && n <= 60000 {
+        let n = number_of(part).ok_or(malformed)?;
+        if (low..=60000).contains(&n) {
             Ok(n)
         } else {
             Err(Fault::OutOfRange {
@@ -115,7 +115,7 @@ impl<'a> Fields<'a> {
         ensures { result ≡ read_end self.old.place.line (left self.old) }
     {
         let malformed = self.malformed();
-        match self.next_field() {
+        match self.next() {
             None => Ok(()),
             Some(_) => Err(malformed),
         }

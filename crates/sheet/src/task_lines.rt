@@ -1,14 +1,15 @@
-//! Task lines: one line field by field, then line after line into a place with room for them.
+//! Task lines: one line field by field, then line after line.
 
-ghost use Rattle.std.specs.Prelude.{◌≡◌, ℕ, ◌≤◌, List, [], ◌∷◌, drop, Ok, Err, vec_capacity, MatchResult};
+ghost use Rattle.std.specs.Prelude.{◌≡◌, ℕ, List, [], ◌∷◌, Ok, Err, MatchResult};
 ghost use Rattle.model.specs.Ranges.{regulars};
 ghost use Rattle.sheet.specs.Cutting.{lines_of};
 ghost use Rattle.sheet.specs.FieldReader.{left};
 ghost use Rattle.sheet.specs.Reading.{read_figures, read_line, read_tasks};
 
-use crate::cutting::first_line;
+use crate::cutting::Lines;
 use crate::field::Fields;
 use crate::reader::fields;
+use arrayvec::ArrayVec;
 use model::fault::Fault;
 use model::kind::Kind;
 use model::line::Line;
@@ -16,7 +17,7 @@ use model::line::Line;
 // The figures of a line and its end, by a reader that has passed kind and name.
 fn read_figures(rest: &mut Fields, kind: Kind) -> Result<Line, Fault>
     requires { rest.old.place.field ≡ 3 }
-    ensures { (fields : List (List ℕ)) → left rest.old ≡ drop 2 fields → result ≡ read_figures rest.old.place.line kind fields }
+    ensures { result ≡ read_figures rest.old.place.line kind (left rest.old) }
 {
     let offset = rest.read_number(0)?;
     let length = rest.read_number(1)?;
@@ -42,44 +43,33 @@ fn read_line(text: &[u8], line: u32, full: bool) -> Result<Line, Fault>
     read_figures(&mut rest, kind)
 }
 
+#[tactic(auto, using(crate::proofs::Regulars::regulars_counts))]
 fn count_regular(lines: &[Line]) -> usize
     ensures { result ≡ regulars lines.now }
 {
-    let mut n = 0;
-    for l in lines {
-        match l.kind {
-            Kind::Regular => n += 1,
-            Kind::Ordinary => {}
-        }
-    }
-    n
+    lines.iter().filter(|l| l.is_regular()).count()
 }
 
 // One line more, behind those in `lines`.
-fn read_next(text: &[u8], lines: &mut Vec<Line>) -> Result<(), Fault>
-    requires { 24 ≤ vec_capacity lines.old }
-    ensures read { (ts : List (List ℕ)) → MatchResult result (λ _. read_tasks lines.old.items (text.now ∷ ts) ≡ read_tasks lines.new.items ts) (λ e. read_tasks lines.old.items (text.now ∷ ts) ≡ Err e) }
-    ensures capacity { vec_capacity lines.new ≡ vec_capacity lines.old }
+fn read_next(text: &[u8], lines: &mut ArrayVec<Line, 24>) -> Result<(), Fault>
+    ensures { (ts : List (List ℕ)) → MatchResult result (λ _. read_tasks lines.old.items (text.now ∷ ts) ≡ read_tasks lines.new.items ts) (λ e. read_tasks lines.old.items (text.now ∷ ts) ≡ Err e) }
 {
-    if lines.len() >= 24 {
+    if lines.is_full() {
         return Err(Fault::TooManyLines { line: 25 });
     }
-    let full = count_regular(lines.as_slice()) >= 8;
+    let full = count_regular(lines) >= 8;
     let line = read_line(text, lines.len() as u32 + 1, full)?;
-    lines.push_reserved(line);
+    lines.push(line);
     Ok(())
 }
 
-// The task lines of a text, into an empty place with room for them.
-pub(crate) fn read_tasks(text: &[u8], lines: &mut Vec<Line>) -> Result<(), Fault>
-    requires { (24 ≤ vec_capacity lines.old) × (lines.old.items ≡ []) }
-    ensures read { MatchResult result (λ _. read_tasks [] (lines_of text.now) ≡ Ok lines.new.items) (λ e. read_tasks [] (lines_of text.now) ≡ Err e) }
-    ensures capacity { vec_capacity lines.new ≡ vec_capacity lines.old }
+// The task lines that are left of a text.
+pub(crate) fn read_tasks(texts: Lines) -> Result<ArrayVec<Line, 24>, Fault>
+    ensures { MatchResult result (λ ls. read_tasks [] (lines_of texts.entry.0.now) ≡ Ok ls.items) (λ e. read_tasks [] (lines_of texts.entry.0.now) ≡ Err e) }
 {
-    let mut rest = text;
-    while let Some((line, more)) = first_line(rest) {
-        read_next(line, lines)?;
-        rest = more;
+    let mut lines = ArrayVec::new();
+    for text in texts {
+        read_next(text, &mut lines)?;
     }
-    Ok(())
+    Ok(lines)
 }

@@ -1,8 +1,10 @@
-//! What the bytes of one field say.
+//! What the bytes of one field say. These are functions and no `TryFrom`: the types stand in `model`, which
+//! reads no text.
 
-ghost use Rattle.std.specs.Prelude.{◌≡◌, ◌≤◌, true, length};
-ghost use Rattle.std.specs.Str.{all_ascii_digits};
-ghost use Rattle.sheet.specs.Reading.{policy_of, kind_of, all_name_bytes, is_name, is_number, value_from, number_of};
+ghost use Rattle.std.specs.Prelude.{◌≡◌};
+ghost use Rattle.std.specs.Char.{is_ascii_digit};
+ghost use Rattle.std.specs.List.{list_all};
+ghost use Rattle.sheet.specs.Reading.{policy_of, kind_of, all_name_bytes, is_name, is_number, number_of};
 
 use model::kind::Kind;
 use model::policy::Policy;
@@ -33,29 +35,19 @@ pub(crate) fn kind_of(part: &[u8]) -> Option<Kind>
 fn all_name_bytes(part: &[u8]) -> bool
     ensures { result ≡ all_name_bytes part.now }
 {
-    for b in part {
-        if !b.is_ascii_alphanumeric() {
-            return false;
-        }
-    }
-    true
+    part.iter().all(|b| b.is_ascii_alphanumeric())
 }
 
 pub(crate) fn is_name(part: &[u8]) -> bool
     ensures { result ≡ is_name part.now }
 {
-    1 <= part.len() && part.len() <= 12 && all_name_bytes(part)
+    (1..=12).contains(&part.len()) && all_name_bytes(part)
 }
 
 fn all_digits(part: &[u8]) -> bool
-    ensures { result ≡ all_ascii_digits part.now }
+    ensures { result ≡ list_all is_ascii_digit part.now }
 {
-    for b in part {
-        if !b.is_ascii_digit() {
-            return false;
-        }
-    }
-    true
+    part.iter().all(|b| b.is_ascii_digit())
 }
 
 // No leading zero, save the number 0 itself.
@@ -68,24 +60,13 @@ fn is_number(part: &[u8]) -> bool
     }
 }
 
-// Seven digits fit with room to spare.
-fn value_of(digits: &[u8]) -> u32
-    requires { (length digits.now ≤ 7) × (all_ascii_digits digits.now ≡ true) }
-    ensures { result ≡ value_from 0 digits.now }
-{
-    let mut n: u32 = 0;
-    for b in digits {
-        n = 10 * n + (*b - b'0') as u32;
-    }
-    n
-}
-
+// Up to seven digits are text that parses.
+#[tactic(auto, using(crate::proofs::Numbers::number_text, crate::proofs::Numbers::number_parsed))]
 pub(crate) fn number_of(part: &[u8]) -> Option<u32>
     ensures { result ≡ number_of part.now }
 {
-    if is_number(part) {
-        Some(value_of(part))
-    } else {
-        None
+    if !is_number(part) {
+        return None;
     }
+    str::from_utf8(part).ok()?.parse().ok()
 }
