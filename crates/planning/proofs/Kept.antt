@@ -1,8 +1,9 @@
 -- The lines that planning makes keep what every plan keeps.
-use Rattle.std.proofs.Common.{◌≡◌, ℕ, ◌+◌, ◌<◌, ◌≤◌, true, false, cond, List, [], ◌∷◌, map, length, get_or, Some, None, Option, sym, refl, ap, ◌∙◌, subst, ⊎_elim, arith}
+use Rattle.std.proofs.Common.{◌≡◌, ℕ, ◌+◌, ◌<◌, ◌≤◌, true, false, cond, ltb, List, [], ◌∷◌, map, length, get_or, Some, None, Option, sym, refl, ap, ◌∙◌, subst, arith}
 use Rattle.std.proofs.ByRecursion.{All-get_or}
 use Rattle.std.proofs.lemmas.List.{get_or-map, length-map}
-use Rattle.std.proofs.lemmas.Bool.{cases_Bool, cond_both}
+use Rattle.std.proofs.lemmas.Bool.{ltb-false}
+use Rattle.std.proofs.lemmas.Grind.{common_steps}
 use Rattle.std.specs.List.{AllByRecursion}
 use Rattle.model.specs.Ranges.{is_regular, blank, Ranged, regulars}
 use Rattle.model.specs.declared.line.Line.{Line}
@@ -11,26 +12,26 @@ use Rattle.model.specs.declared.policy.Policy.TheVariants.{Dm, Ed}
 use Rattle.windows.specs.Windows.{Periodic, apart_lines, at, AllApart}
 use Rattle.windows.specs.Euclid.{lcm_of}
 use Rattle.windows.proofs.Rule.{apart_means}
+use Rattle.planning.proofs.Multiples.{hyper_from}
 use Rattle.planning.proofs.Placings.{tail, placed_periodic}
-use Rattle.planning.proofs.Tight.{loose_at}
+use Rattle.planning.proofs.Positions.{none_passes}
 use Rattle.planning.specs.Deadlines.{regular_deadline, changed, tight_at}
-use Rattle.planning.specs.Hyperperiods.{hyper_from}
 use Rattle.planning.specs.Offsets.{Placing}
 use Rattle.planning.specs.Plans.{Planned, AllPlanned}
 
 module _ (policy : Policy) (m : Option ℕ) where
   pub hyperperiod_kept : (h : ℕ) (ls q : List Line) → Placing ls q → hyper_from h (map (changed policy m) q) ≡ hyper_from h ls
   hyperperiod_kept h [] [] p = refl
-  hyperperiod_kept h [] (x ∷ xs) p = let e = p.whole in absurd (omega arith)
-  hyperperiod_kept h (l ∷ ls) [] p = let e = p.whole in absurd (omega arith)
+  hyperperiod_kept h [] (x ∷ xs) p = absurd (omega (arith, p.whole))
+  hyperperiod_kept h (l ∷ ls) [] p = absurd (omega (arith, p.whole))
   hyperperiod_kept h (l ∷ ls) (x ∷ xs) p =
       let same : x.period ≡ l.period = ap (λ y. y.period) (p.same 0 (omega arith)) in
       ap (λ n. hyper_from (lcm_of h n) (map (changed policy m) xs)) same ∙ hyperperiod_kept (lcm_of h l.period) ls xs (tail l x ls xs p)
 
   pub regulars_kept : (ls q : List Line) → Placing ls q → regulars (map (changed policy m) q) ≡ regulars ls
   regulars_kept [] [] p = refl
-  regulars_kept [] (x ∷ xs) p = let e = p.whole in absurd (omega arith)
-  regulars_kept (l ∷ ls) [] p = let e = p.whole in absurd (omega arith)
+  regulars_kept [] (x ∷ xs) p = absurd (omega (arith, p.whole))
+  regulars_kept (l ∷ ls) [] p = absurd (omega (arith, p.whole))
   regulars_kept (l ∷ ls) (x ∷ xs) p =
       let same : is_regular x ≡ is_regular l = ap is_regular (p.same 0 (omega arith)) in
       ap (λ b. cond b 1 0 + regulars (map (changed policy m) xs)) same ∙ ap (λ n. cond (is_regular l) 1 0 + n) (regulars_kept ls xs (tail l x ls xs p))
@@ -42,31 +43,10 @@ within_period Dm (Some n) l c d = omega arith
 
 -- x stands for the sheet's line l
 changed_planned : (policy : Policy) (m : Option ℕ) (l x : Line) → Ranged l → x ≡ at l x.offset → (is_regular l ≡ false → x ≡ l) → (is_regular l ≡ true → x.offset < l.period) → x.length ≤ (changed policy m x).deadline → Planned (changed policy m x)
-changed_planned policy m l x r same ordinary below loose = (
-  (offset, length, loose, deadline, period),
-  λ reg. below' (sym (ap is_regular same) ∙ reg),
-)
-  where
-    length : 0 < x.length
-    length = subst (λ y. 0 < y.length) (sym same) r.1
-
-    deadline_was : x.deadline ≤ x.period
-    deadline_was = subst (λ y. y.deadline ≤ y.period) (sym same) r.3
-
-    length_was : x.length ≤ x.period
-    length_was = subst (λ y. y.length ≤ y.period) (sym same) (let a = r.2 in let b = r.3 in omega arith)
-
-    period : x.period ≤ 60000
-    period = subst (λ y. y.period ≤ 60000) (sym same) r.4
-
-    below' : is_regular l ≡ true → x.offset < x.period
-    below' reg = subst (λ n. x.offset < n) (sym (ap (λ y. y.period) same)) (below reg)
-
-    offset : x.offset ≤ 60000
-    offset = ⊎_elim (λ (reg : is_regular l ≡ true). let a = below' reg in let b = period in omega arith) (λ (ord : is_regular l ≡ false). subst (λ y. y.offset ≤ 60000) (sym (ordinary ord)) r.0) (cases_Bool (is_regular l))
-
-    deadline : (changed policy m x).deadline ≤ x.period
-    deadline = cond_both (is_regular x) (regular_deadline policy m x) x.deadline (λ n. n ≤ x.period) (λ _. within_period policy m x length_was deadline_was) (λ _. deadline_was)
+changed_planned policy m l x r same ordinary below loose =
+    let e = λ (f : Line → ℕ). ap f same in
+    let w = within_period policy m x in
+    grind (arith, common_steps, e (λ y. y.length), e (λ y. y.deadline), e (λ y. y.period), ap is_regular same, r, w)
 
 module _ (policy : Policy) (m : Option ℕ) (ls q : List Line) (ranged : AllByRecursion Ranged ls) (p : Placing ls q) where
   -- what stands at place i
@@ -80,7 +60,7 @@ module _ (policy : Policy) (m : Option ℕ) (ls q : List Line) (ranged : AllByRe
       let h' : i < length ls = omega arith in
       let e = read i h' in
       subst Planned (sym e) (changed_planned policy m (get_or ls i blank) (get_or q i blank) (All-get_or Ranged ls i blank h' ranged) (p.same i h') (p.ordinary i h') (p.below i h')
-      (subst (λ y. y.length ≤ y.deadline) e (loose_at 1 (map (changed policy m) q) loose i h)))
+      (subst (λ y. y.length ≤ y.deadline) e (ltb-false _ _ (none_passes (λ y. ltb y.deadline y.length) 1 (map (changed policy m) q) blank loose i h))))
 
   pub all_apart : AllApart (map (changed policy m) q)
   all_apart w =

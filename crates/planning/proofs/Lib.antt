@@ -1,12 +1,9 @@
-pub mod Options
-pub mod ByPlace
 pub mod LeastDeadline
-pub mod Tight
+pub mod Positions
 pub mod Multiples
 pub mod ShortPairs
+pub mod PairLoops
 pub mod Candidates
-pub mod Unplaced
-pub mod Steps
 pub mod Search
 pub mod Clear
 pub mod Placings

@@ -1,16 +1,19 @@
 -- The hyperperiod is what its name says, and passes the limit exactly if some front of the list does.
-use Rattle.std.proofs.Common.{◌≡◌, ℕ, suc, ◌+◌, ◌-◌, ◌<◌, ◌≤◌, true, false, cond, ltb, List, [], ◌∷◌, length, get_or, take, drop, Some, None, sym, refl, ap, ◌∙◌, subst, ⊎_elim, arith}
+use Rattle.std.proofs.Common.{◌≡◌, ℕ, suc, ◌+◌, ◌-◌, ◌<◌, ◌≤◌, true, false, cond, ltb, Bool, List, [], ◌∷◌, length, get_or, take, drop, Some, None, sym, refl, ap, ◌∙◌, subst, arith}
 use Prim.Native.Nat.{◌∣◌}
 use native.Mathlib.Nat.{dvd_refl, dvd_trans, one-dvd, le_of_dvd}
 use Rattle.std.proofs.lemmas.List.{at_drop_more}
-use Rattle.std.proofs.lemmas.Bool.{cond-true, cond-false, le-ltb, ltb-true, ltb-false}
-use Rattle.std.specs.List.{AllByRecursion}
-use Rattle.model.specs.Ranges.{blank}
+use Rattle.std.proofs.lemmas.Bool.{cond-true, cond-false, lt-ltb, le-ltb, ltb-true, ltb-false}
+use Rattle.std.proofs.lemmas.Grind.{common_steps}
+use Rattle.std.specs.List.{fold, AllByRecursion}
 use Rattle.model.specs.declared.line.Line.{Line}
 use Rattle.windows.specs.Euclid.{lcm_of}
 use Rattle.windows.proofs.Lcm.{lcm_is, lcm_positive}
-use Rattle.planning.proofs.Options.{some_none, cond_none, cond_some, unless_some, unless_none}
-use Rattle.planning.specs.Hyperperiods.{hyper_from, hyperperiod, passes_at, limit, PassesFirst, IsHyperperiod}
+use Rattle.planning.specs.Hyperperiods.{hyperperiod, passes_at, limit, PassesFirst, IsHyperperiod}
+
+-- the least common multiple of h and all periods
+abbrev pub hyper_from : ℕ → List Line → ℕ
+hyper_from h ls = fold (λ m l. lcm_of m l.period) h ls
 
 -- every period divides n
 abbrev Common : ℕ → List Line → Type 0
@@ -40,10 +43,7 @@ positive h (l ∷ ls) p a = positive (lcm_of h l.period) ls (lcm_positive h l.pe
 
 pub none_within : (n h : ℕ) (ls : List Line) → h ≤ limit → passes_at n h ls ≡ None → hyper_from h ls ≤ limit
 none_within n h [] b e = b
-none_within n h (l ∷ ls) b e =
-    let m = lcm_of h l.period in
-    let e' = cond_none (ltb limit m) n (passes_at (n + 1) m ls) e in
-    none_within (n + 1) m ls (ltb-false limit m e'.0) e'.1
+none_within n h (l ∷ ls) b e = let m = lcm_of h l.period in grind (arith, common_steps, ltb-false limit m, none_within (n + 1) m ls)
 
 pub within_none : (n h : ℕ) (ls : List Line) → 0 < h → Positive ls → hyper_from h ls ≤ limit → passes_at n h ls ≡ None
 within_none n h [] p a b = refl
@@ -51,7 +51,8 @@ within_none n h (l ∷ ls) p a b =
     let m = lcm_of h l.period in
     let pm : 0 < m = lcm_positive h l.period p a.0 in
     let up : m ≤ hyper_from m ls = le_of_dvd (positive m ls pm a.1) (goes_in m ls) in
-    cond-false (ltb limit m) (Some n) (passes_at (n + 1) m ls) (le-ltb limit m (omega arith)) ∙ within_none (n + 1) m ls pm a.1 b
+    let short : ltb limit m ≡ false = le-ltb limit m (omega arith) in
+    simp short (within_none (n + 1) m ls pm a.1 b)
 
 -- place i holds the first line with which the multiple, h before ls, passes the limit
 record Passing (n h : ℕ) (ls : List Line) (k : ℕ) : Type 0 where
@@ -62,15 +63,14 @@ record Passing (n h : ℕ) (ls : List Line) (k : ℕ) : Type 0 where
   past : limit < hyper_from h (take (suc i) ls)
 
 passing : (n h : ℕ) (ls : List Line) (k : ℕ) → h ≤ limit → passes_at n h ls ≡ Some k → Passing n h ls k
-passing n h [] k b e = absurd (some_none k (sym e))
-passing n h (l ∷ ls) k b e =
-    let m = lcm_of h l.period in
-    ⊎_elim
-    (λ (w : (ltb limit m ≡ true) × (n ≡ k)). let same = w.1 in record { i = 0; inside = omega arith; is = omega arith; before = b; past = ltb-true limit m w.0 })
-    (λ (w : (ltb limit m ≡ false) × (passes_at (n + 1) m ls ≡ Some k)).
-    let r = passing (n + 1) m ls k (ltb-false limit m w.0) w.1 in
-    record { i = suc r.i; inside = omega (arith, r.inside); is = omega (arith, r.is); before = r.before; past = r.past })
-    (cond_some (ltb limit m) n k (passes_at (n + 1) m ls) e)
+passing n h [] k b e = cc
+passing n h (l ∷ ls) k b e = go (passing (n + 1) (lcm_of h l.period) ls k) (ltb limit (lcm_of h l.period)) refl
+  where
+    go : (lcm_of h l.period ≤ limit → passes_at (n + 1) (lcm_of h l.period) ls ≡ Some k → Passing (n + 1) (lcm_of h l.period) ls k) → (r : Bool) → ltb limit (lcm_of h l.period) ≡ r → Passing n h (l ∷ ls) k
+    go next true t = record { i = 0; inside = omega arith; is = grind (arith, common_steps); before = b; past = ltb-true limit (lcm_of h l.period) t }
+    go next false t =
+        let w = next (ltb-false limit (lcm_of h l.period) t) (simp t at e) in
+        record { i = suc w.i; inside = omega (arith, w.inside); is = omega (arith, w.is); before = w.before; past = w.past }
 
 pub passes_first : (ls : List Line) (k : ℕ) → passes_at 1 1 ls ≡ Some k → PassesFirst ls k
 passes_first ls k e =
@@ -83,20 +83,16 @@ passes_first ls k e =
       past = subst (λ i. limit < hyperperiod (take i ls)) past r.past;
     }
 
--- one more line of a list
-module _ (ls : List Line) (i h : ℕ) (inside : i < length ls) where
-  passes_more : passes_at (i + 1) h (drop i ls) ≡ cond (ltb limit (lcm_of h (get_or ls i blank).period)) (Some (i + 1)) (passes_at (i + 1 + 1) (lcm_of h (get_or ls i blank).period) (drop (i + 1) ls))
-  passes_more = at_drop_more (passes_at (i + 1) h) ls i blank inside
+-- one more line of a list, where m is its multiple with h
+module _ (ls : List Line) (i h m : ℕ) (d : Line) (inside : i < length ls) (is : m ≡ lcm_of h (get_or ls i d).period) where
+  passes_more : passes_at (i + 1) h (drop i ls) ≡ cond (ltb limit m) (Some (i + 1)) (passes_at (i + 1 + 1) m (drop (i + 1) ls))
+  passes_more = at_drop_more (passes_at (i + 1) h) ls i d inside ∙ ap (λ n. cond (ltb limit n) (Some (i + 1)) (passes_at (i + 1 + 1) n (drop (i + 1) ls))) (sym is)
 
-  pub goes_past : None ≡ cond (ltb limit (lcm_of h (get_or ls i blank).period)) None (Some (lcm_of h (get_or ls i blank).period)) → passes_at (i + 1) h (drop i ls) ≡ Some (i + 1)
-  goes_past e =
-      let m = lcm_of h (get_or ls i blank).period in
-      passes_more ∙ cond-true (ltb limit m) (Some (i + 1)) (passes_at (i + 1 + 1) m (drop (i + 1) ls)) (unless_none (ltb limit m) m e)
+  pub goes_past : limit < m → passes_at (i + 1) h (drop i ls) ≡ Some (i + 1)
+  goes_past l = passes_more ∙ cond-true (ltb limit m) _ _ (lt-ltb limit m l)
 
-  pub stays_within : (n : ℕ) → Some n ≡ cond (ltb limit (lcm_of h (get_or ls i blank).period)) None (Some (lcm_of h (get_or ls i blank).period)) → (passes_at (i + 1 + 1) n (drop (i + 1) ls) ≡ passes_at (i + 1) h (drop i ls)) × (hyper_from n (drop (i + 1) ls) ≡ hyper_from h (drop i ls))
-  stays_within n e =
-      let m = lcm_of h (get_or ls i blank).period in
-      let w = unless_some (ltb limit m) m n e in (
-        ap (λ k. passes_at (i + 1 + 1) k (drop (i + 1) ls)) w.1 ∙ sym (passes_more ∙ cond-false (ltb limit m) (Some (i + 1)) (passes_at (i + 1 + 1) m (drop (i + 1) ls)) w.0),
-        ap (λ k. hyper_from k (drop (i + 1) ls)) w.1 ∙ sym (at_drop_more (hyper_from h) ls i blank inside),
-      )
+  pub stays_within : m ≤ limit → (passes_at (i + 1 + 1) m (drop (i + 1) ls) ≡ passes_at (i + 1) h (drop i ls)) × (hyper_from m (drop (i + 1) ls) ≡ hyper_from h (drop i ls))
+  stays_within l = (
+    sym (passes_more ∙ cond-false (ltb limit m) _ _ (le-ltb limit m l)),
+    ap (λ n. hyper_from n (drop (i + 1) ls)) is ∙ sym (at_drop_more (hyper_from h) ls i d inside),
+  )

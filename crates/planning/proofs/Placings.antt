@@ -1,14 +1,14 @@
 -- The search and the placings: what it finds is the first placing, and where it finds nothing there
 -- is none.
-use Rattle.std.proofs.Common.{◌≡◌, ℕ, zero, suc, ◌-◌, ◌<◌, true, false, List, [], ◌∷◌, ◌++◌, length, get_or, take, Some, None, sym, refl, ap, ◌∙◌, subst, inl, inr, ⊎_elim, arith}
+use Rattle.std.proofs.Common.{◌≡◌, ℕ, zero, suc, ◌-◌, ◌<◌, true, List, [], ◌∷◌, ◌++◌, length, get_or, take, Some, None, sym, refl, ap, ◌∙◌, subst, inl, inr, ⊎_elim, arith}
 use Rattle.std.proofs.ByRecursion.{All-get_or}
-use Rattle.std.proofs.lemmas.Bool.{cases_Bool, both_ways}
+use Rattle.std.proofs.lemmas.Bool.{both_ways}
+use Rattle.std.proofs.lemmas.Grind.{common_steps}
 use Rattle.std.specs.List.{AllByRecursion}
 use Rattle.model.specs.Ranges.{is_regular, blank, Ranged}
 use Rattle.model.specs.declared.line.Line.{Line}
 use Rattle.windows.specs.Windows.{Meet, Periodic, apart_lines, at}
 use Rattle.windows.proofs.Rule.{apart_means}
-use Rattle.planning.proofs.ByPlace.{by_place}
 use Rattle.planning.proofs.Clear.{clear_push, clear_pushed}
 use Rattle.planning.proofs.Search.{Fits, Good, Before, found, nothing}
 use Rattle.planning.proofs.ShortPairs.{never_apart}
@@ -53,16 +53,16 @@ in_front : (placed : List Line) (l m : Line) (ls ms : List Line) → Ranged l �
 in_front placed l m ls ms rl a f h c = (
   record {
     whole = let e = h.whole in omega arith;
-    same = by_place (λ i. i < length (l ∷ ls) → get_or (m ∷ ms) i blank ≡ at (get_or (l ∷ ls) i blank) (get_or (m ∷ ms) i blank).offset) (λ _. like) (λ i lt. h.same i (omega arith));
-    ordinary = by_place (λ i. i < length (l ∷ ls) → is_regular (get_or (l ∷ ls) i blank) ≡ false → get_or (m ∷ ms) i blank ≡ get_or (l ∷ ls) i blank) (λ _ ord. f.ordinary ord) (λ i lt. h.ordinary i (omega arith));
-    below = by_place (λ i. i < length (l ∷ ls) → is_regular (get_or (l ∷ ls) i blank) ≡ true → (get_or (m ∷ ms) i blank).offset < (get_or (l ∷ ls) i blank).period) (λ _ reg. (f.regular reg).0) (λ i lt. h.below i (omega arith));
+    same = λ i lt. grind (arith, common_steps, h.same (i - 1));
+    ordinary = λ i lt ord. grind (arith, common_steps, h.ordinary (i - 1), f.ordinary);
+    below = λ i lt reg. grind (arith, common_steps, h.below (i - 1), f.regular);
     clear = apart;
   },
-  by_place (λ i. i < length (l ∷ ls) → is_regular (get_or (l ∷ ls) i blank) ≡ true → clear_of placed (get_or (m ∷ ms) i blank) ≡ true) (λ _ reg. (f.regular reg).2) (λ i lt reg. (clear_pushed placed m (get_or ms i blank) (c i (omega arith) reg)).0),
+  λ i lt reg. grind (arith, common_steps, f.regular, clear_pushed placed m (get_or ms (i - 1) blank), c (i - 1)),
 )
   where
     like : m ≡ at l m.offset
-    like = ⊎_elim (λ (reg : is_regular l ≡ true). (f.regular reg).1) (λ (ord : is_regular l ≡ false). subst (λ x. x ≡ at l x.offset) (sym (f.ordinary ord)) refl) (cases_Bool (is_regular l))
+    like = grind (arith, common_steps, f.regular, f.ordinary)
 
     apart : (i j : ℕ) → i < j → j < length (l ∷ ls) → is_regular (get_or (l ∷ ls) i blank) ≡ true → is_regular (get_or (l ∷ ls) j blank) ≡ true → Meet (get_or (m ∷ ms) i blank) (get_or (m ∷ ms) j blank) → ⊥
     apart i zero order lt p q = absurd (omega arith)

@@ -1,7 +1,8 @@
 -- What is known of the steps of planning from what planning comes to.
-use Rattle.std.proofs.Common.{◌≡◌, ℕ, ◌⊎◌, List, [], Some, None, Ok, Err, Option, Result, refl, subst, inl, inr, ⊎_elim, arith}
+use Rattle.std.proofs.Common.{◌≡◌, ℕ, List, [], Some, None, Ok, Err, Option, Result, sym, refl, subst}
 use Rattle.std.specs.List.{AllByRecursion}
 use Rattle.model.specs.Ranges.{Ranged}
+use Rattle.model.specs.Results.{or_fault}
 use Rattle.model.specs.TaskSets.{TaskSet, task_set}
 use Rattle.model.specs.declared.fault.Fault.{Fault}
 use Rattle.model.specs.declared.fault.Fault.TheVariants.{HyperperiodTooLong, PairTooLong, NoOffsets, DeadlineTooShort}
@@ -11,24 +12,7 @@ use Rattle.planning.proofs.Placings.{found_is_least, nothing_to_find, too_long_t
 use Rattle.planning.specs.Deadlines.{with_deadlines, tight_at}
 use Rattle.planning.specs.Hyperperiods.{passes_at}
 use Rattle.planning.specs.Offsets.{short_pair, place}
-use Rattle.planning.specs.Plans.{refuse, need, plan_of, Unplaceable, TooShortAt}
-
-module _ {X Y : Type 0} where
-  refuse_ok : (o : Option X) (f : X → Fault) (r : Result Y Fault) (t : Y) → refuse o f r ≡ Ok t → (o ≡ None) × (r ≡ Ok t)
-  refuse_ok None f r t e = (refl, e)
-  refuse_ok (Some x) f r t e = let z : ◌≡◌ {A = ℕ} 0 1 = cc in absurd (omega arith)
-
-  need_ok : (o : Option X) (f : Fault) (k : X → Result Y Fault) (t : Y) → need o f k ≡ Ok t → (x : X) × (o ≡ Some x) × (k x ≡ Ok t)
-  need_ok None f k t e = let z : ◌≡◌ {A = ℕ} 0 1 = cc in absurd (omega arith)
-  need_ok (Some x) f k t e = (x, refl, e)
-
-  refuse_err : (o : Option X) (f : X → Fault) (r : Result Y Fault) (w : Fault) → refuse o f r ≡ Err w → ((x : X) × (o ≡ Some x) × (w ≡ f x)) ⊎ (r ≡ Err w)
-  refuse_err None f r w e = inr e
-  refuse_err (Some x) f r w e = inl (x, refl, cc)
-
-  need_err : (o : Option X) (f : Fault) (k : X → Result Y Fault) (w : Fault) → need o f k ≡ Err w → ((o ≡ None) × (w ≡ f)) ⊎ ((x : X) × (o ≡ Some x) × (k x ≡ Err w))
-  need_err None f k w e = inl (refl, cc)
-  need_err (Some x) f k w e = inr (x, refl, e)
+use Rattle.planning.specs.Plans.{refuse, plan_of, Unplaceable, RightlyRefused, PlacedFirst}
 
 -- every step went well, and q are the lines with their offsets
 pub record Passed (policy : Policy) (ls : List Line) (t : TaskSet) : Type 0 where
@@ -38,73 +22,42 @@ pub record Passed (policy : Policy) (ls : List Line) (t : TaskSet) : Type 0 wher
   pub loose : tight_at 1 (with_deadlines policy q) ≡ None
   pub is : t ≡ task_set policy (with_deadlines policy q)
 
--- which step refuses, and what is then known
-data Cause (policy : Policy) (ls : List Line) (w : Fault) : Type 0 where
-  long : (n : ℕ) → w ≡ HyperperiodTooLong n → Cause policy ls w
-  crowded : (pair : ℕ × ℕ) → w ≡ PairTooLong pair.0 pair.1 → Unplaceable ls → Cause policy ls w
-  without : w ≡ NoOffsets → Unplaceable ls → Cause policy ls w
-  tight : (n : ℕ) → w ≡ DeadlineTooShort n → TooShortAt policy ls n → Cause policy ls w
-
 module _ (policy : Policy) (ls : List Line) where
-  last : List Line → Result TaskSet Fault
-  last q = refuse (tight_at 1 (with_deadlines policy q)) DeadlineTooShort (Ok (task_set policy (with_deadlines policy q)))
+  -- the steps, where what each of them finds is given
+  abbrev last : List Line → Option ℕ → Result TaskSet Fault
+  last q tight = refuse tight DeadlineTooShort (Ok (task_set policy (with_deadlines policy q)))
 
-  pair_fault : ℕ × ℕ → Fault
-  pair_fault pair = PairTooLong pair.0 pair.1
-
-  third : Result TaskSet Fault
-  third = need (place [] ls) NoOffsets last
-
-  second : Result TaskSet Fault
-  second = refuse (short_pair 1 ls) pair_fault third
+  abbrev steps : Option ℕ → Option (ℕ × ℕ) → Option (List Line) → Result TaskSet Fault
+  steps long pair placed = refuse long HyperperiodTooLong (refuse pair (λ p. PairTooLong p.0 p.1) (or_fault placed NoOffsets (λ q. last q (tight_at 1 (with_deadlines policy q)))))
 
   pub passed : (t : TaskSet) → plan_of (task_set policy ls) ≡ Ok t → Passed policy ls t
-  unfolding last pair_fault third second
-  passed t e =
-      let a = refuse_ok (passes_at 1 1 ls) HyperperiodTooLong second t e in
-      let b = refuse_ok (short_pair 1 ls) pair_fault third t a.1 in
-      let c = need_ok (place [] ls) NoOffsets last t b.1 in
-      let d = refuse_ok (tight_at 1 (with_deadlines policy c.0)) DeadlineTooShort (Ok (task_set policy (with_deadlines policy c.0))) t c.2 in
-      let ok = d.1 in
-      record { q = c.0; short = a.0; placed = c.1; loose = d.0; is = cc }
+  passed t e = go (passes_at 1 1 ls) (short_pair 1 ls) (place [] ls) refl refl e
+    where
+      loose : (q : List Line) (o : Option ℕ) → tight_at 1 (with_deadlines policy q) ≡ o → last q o ≡ Ok t → (o ≡ None) × (t ≡ task_set policy (with_deadlines policy q))
+      loose q (Some n) f e = cc
+      loose q None f e = (refl, cc)
 
-  cause : AllByRecursion Ranged ls → (w : Fault) → plan_of (task_set policy ls) ≡ Err w → Cause policy ls w
-  unfolding last pair_fault third second
-  cause ranged w e =
-      ⊎_elim
-      (λ (a : (n : ℕ) × (passes_at 1 1 ls ≡ Some n) × (w ≡ HyperperiodTooLong n)). long a.0 a.2)
-      (λ (b : second ≡ Err w).
-      ⊎_elim
-      (λ (a : (pair : ℕ × ℕ) × (short_pair 1 ls ≡ Some pair) × (w ≡ pair_fault pair)). crowded a.0 a.2 (too_long_to_place ls ranged a.0 a.1))
-      (λ (c : third ≡ Err w).
-      ⊎_elim
-      (λ (a : (place [] ls ≡ None) × (w ≡ NoOffsets)). without a.1 (nothing_to_find ls ranged a.0))
-      (λ (d : (q : List Line) × (place [] ls ≡ Some q) × (last q ≡ Err w)).
-      ⊎_elim
-      (λ (a : (n : ℕ) × (tight_at 1 (with_deadlines policy d.0) ≡ Some n) × (w ≡ DeadlineTooShort n)). tight a.0 a.2 (d.0, found_is_least ls ranged d.0 d.1, a.1))
-      (λ (ok : Ok (task_set policy (with_deadlines policy d.0)) ≡ Err w). let z : ◌≡◌ {A = ℕ} 0 1 = cc in absurd (omega arith))
-      (refuse_err (tight_at 1 (with_deadlines policy d.0)) DeadlineTooShort (Ok (task_set policy (with_deadlines policy d.0))) w d.2))
-      (need_err (place [] ls) NoOffsets last w c))
-      (refuse_err (short_pair 1 ls) pair_fault third w b))
-      (refuse_err (passes_at 1 1 ls) HyperperiodTooLong second w e)
+      go : (a : Option ℕ) (b : Option (ℕ × ℕ)) (o : Option (List Line)) → passes_at 1 1 ls ≡ a → place [] ls ≡ o → steps a b o ≡ Ok t → Passed policy ls t
+      go (Some n) b o f g e = cc
+      go None (Some p) o f g e = cc
+      go None None None f g e = cc
+      go None None (Some q) f g e = let w = loose q (tight_at 1 (with_deadlines policy q)) refl e in record { q = q; short = f; placed = g; loose = w.0; is = w.1 }
 
--- what a refusal says of the offsets
-abbrev Says : Policy → List Line → Fault → Type 0
-Says policy ls w = ((i j : ℕ) → w ≡ PairTooLong i j → Unplaceable ls) × (w ≡ NoOffsets → Unplaceable ls) × ((n : ℕ) → w ≡ DeadlineTooShort n → TooShortAt policy ls n)
+  pub refused : AllByRecursion Ranged ls → (w : Fault) → plan_of (task_set policy ls) ≡ Err w → RightlyRefused policy ls w
+  refused ranged w e = go (passes_at 1 1 ls) (short_pair 1 ls) (place [] ls) refl refl e
+    where
+      without : Unplaceable ls → ((k : ℕ) → w ≡ DeadlineTooShort k → ⊥) → RightlyRefused policy ls w
+      without none other = (λ i j is. none, λ is. none, λ k is. absurd (other k is))
 
-says : (policy : Policy) (ls : List Line) (w : Fault) → Cause policy ls w → Says policy ls w
-says policy ls w (long n e) = (
-  λ i j is. let z : ◌≡◌ {A = ℕ} 0 1 = cc in absurd (omega arith),
-  λ is. let z : ◌≡◌ {A = ℕ} 0 1 = cc in absurd (omega arith),
-  λ k is. let z : ◌≡◌ {A = ℕ} 0 1 = cc in absurd (omega arith),
-)
-says policy ls w (crowded pair e none) = (λ i j is. none, λ is. none, λ k is. let z : ◌≡◌ {A = ℕ} 0 1 = cc in absurd (omega arith))
-says policy ls w (without e none) = (λ i j is. none, λ is. none, λ k is. let z : ◌≡◌ {A = ℕ} 0 1 = cc in absurd (omega arith))
-says policy ls w (tight n e t) = (
-  λ i j is. let z : ◌≡◌ {A = ℕ} 0 1 = cc in absurd (omega arith),
-  λ is. let z : ◌≡◌ {A = ℕ} 0 1 = cc in absurd (omega arith),
-  λ k is. let same : n ≡ k = cc in subst (TooShortAt policy ls) same t,
-)
+      tight : (q : List Line) → place [] ls ≡ Some q → (o : Option ℕ) → tight_at 1 (with_deadlines policy q) ≡ o → last q o ≡ Err w → RightlyRefused policy ls w
+      tight q g None f e = cc
+      tight q g (Some n) f e = (λ i j is. cc, λ is. cc, λ k is. let same : Some n ≡ Some k = cc in (q, found_is_least ls ranged q g, subst (λ o. tight_at 1 (with_deadlines policy q) ≡ o) same f))
 
-pub refused : (policy : Policy) (ls : List Line) → AllByRecursion Ranged ls → (w : Fault) → plan_of (task_set policy ls) ≡ Err w → Says policy ls w
-refused policy ls ranged w e = says policy ls w (cause policy ls ranged w e)
+      go : (a : Option ℕ) (b : Option (ℕ × ℕ)) (o : Option (List Line)) → short_pair 1 ls ≡ b → place [] ls ≡ o → steps a b o ≡ Err w → RightlyRefused policy ls w
+      go (Some n) b o f g e = (λ i j is. cc, λ is. cc, λ k is. cc)
+      go None (Some pair) o f g e = without (too_long_to_place ls ranged pair f) (λ k is. cc)
+      go None None None f g e = without (nothing_to_find ls ranged g) (λ k is. cc)
+      go None None (Some q) f g e = tight q g (tight_at 1 (with_deadlines policy q)) refl e
+
+pub refused_first : {X : Type 0} (r : Result X Fault) (policy : Policy) (ls after : List Line) (w : Fault) → r ≡ Err w → RightlyRefused policy ls w → PlacedFirst r policy ls after
+refused_first r policy ls after w e h = subst (λ o. PlacedFirst o policy ls after) (sym e) h

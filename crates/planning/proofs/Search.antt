@@ -1,13 +1,12 @@
 -- The search, over lists: what it finds is good and comes first, and where it finds nothing there is
 -- nothing good.
-use Rattle.std.proofs.Common.{◌≡◌, ℕ, ◌<◌, ◌≤◌, true, false, ◌⊎◌, List, [], ◌∷◌, ◌++◌, Some, None, sym, refl, ap, ◌∙◌, subst, inl, inr, ⊎_elim, append_assoc, append-nil, arith}
+use Rattle.std.proofs.Common.{◌≡◌, ℕ, ◌<◌, ◌≤◌, Bool, true, false, cond, ◌⊎◌, List, [], ◌∷◌, ◌++◌, Some, None, Option, sym, refl, ap, ◌∙◌, subst, inl, inr, ⊎_elim, append_assoc, append-nil, arith}
 use Rattle.std.proofs.lemmas.Bool.{cases_Bool, cases_order, both_ways}
+use Rattle.std.proofs.lemmas.Option.{same_Some}
 use Rattle.model.specs.Ranges.{is_regular}
 use Rattle.model.specs.declared.line.Line.{Line}
 use Rattle.windows.specs.Windows.{at}
-use Rattle.planning.proofs.Candidates.{try_some, try_none}
-use Rattle.planning.proofs.Options.{some_none, same_some, guard_some, guard_none}
-use Rattle.planning.proofs.Unplaced.{candidate, place_regular, place_ordinary}
+use Rattle.planning.proofs.Candidates.{try_some, try_none, candidate, place_regular, place_ordinary}
 use Rattle.planning.specs.Offsets.{clear_of, place}
 
 -- m is l with an offset that can stand beside those placed
@@ -35,10 +34,18 @@ module _ (placed : List Line) (l : Line) (ls : List Line) (regular : is_regular 
   good_at o e g = subst (λ x. Good (placed ++ x ∷ []) ls ms) ((fits.regular regular).1 ∙ ap (at l) e) g
 
   leads : candidate placed l ls m.offset ≡ None → place (placed ++ at l m.offset ∷ []) ls ≡ None
-  leads e = guard_none (clear_of placed (at l m.offset)) (place (placed ++ at l m.offset ∷ []) ls) e (subst (λ x. clear_of placed x ≡ true) (fits.regular regular).1 (fits.regular regular).2)
+  leads e =
+      let f = fits.regular regular in
+      let clear : clear_of placed (at l m.offset) ≡ true = rw f.1 at f.2 in
+      simp clear at e
+
+-- what a candidate that leads to something is known by
+guard : {X : Type 0} (b : Bool) (o : Option X) (x : X) → cond b o None ≡ Some x → (b ≡ true) × (o ≡ Some x)
+guard true o x e = (refl, e)
+guard false o x e = cc
 
 pub nothing : (placed ls : List Line) → place placed ls ≡ None → (s : List Line) → Good placed ls s → ⊥
-nothing placed [] e s g = some_none placed e
+nothing placed [] e s g = cc
 nothing placed (l ∷ ls) e [] g = g
 nothing placed (l ∷ ls) e (m ∷ ms) g =
     ⊎_elim
@@ -79,13 +86,13 @@ first_ordinary placed l ls r ordinary first [] g = g
 first_ordinary placed l ls r ordinary first (m ∷ ms) g = inr (sym (g.0.ordinary ordinary), first ms (subst (λ x. Good (placed ++ x ∷ []) ls ms) (g.0.ordinary ordinary) g.1))
 
 pub found : (placed ls q : List Line) → place placed ls ≡ Some q → Found placed ls q
-found placed [] q e = record { r = []; is = sym (same_some placed q e) ∙ sym (append-nil placed); good = tt; first = none_left placed }
+found placed [] q e = record { r = []; is = sym (same_Some placed q e) ∙ sym (append-nil placed); good = tt; first = none_left placed }
 found placed (l ∷ ls) q e =
     ⊎_elim
     (λ (yes : is_regular l ≡ true).
     let w = try_some l.period 0 (candidate placed l ls) q (sym (place_regular placed l ls yes) ∙ e) in
     let m = at l w.k in
-    let here = guard_some (clear_of placed m) (place (placed ++ m ∷ []) ls) q w.here in
+    let here = guard (clear_of placed m) (place (placed ++ m ∷ []) ls) q w.here in
     let f = found (placed ++ m ∷ []) ls q here.1 in
     record {
       r = m ∷ f.r;

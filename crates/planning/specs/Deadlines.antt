@@ -1,25 +1,19 @@
 -- The deadlines that a plan holds.
---   min_with         the smaller of a number and another, if there is one
---   least_ordinary   the least deadline of the ordinary lines, if there is one
+--   least_ordinary                  the least deadline of the ordinary lines, if there is one
 --   IsLeastOrdinary, NoneOrdinary   what makes a number that, and when there is none
---   regular_deadline, changed   a line's deadline in the plan
---   with_deadlines   all lines with their deadlines in the plan
---   tight_at         the first line whose deadline is below its length
-use Rattle.std.specs.Prelude.{◌≡◌, ℕ, ◌+◌, ◌-◌, ◌<◌, ◌≤◌, min, true, false, cond, List, [], ◌∷◌, map, length, get_or, Some, None, Option, nat_lt, slice_index_or}
+--   regular_deadline, changed       a line's deadline in the plan
+--   with_deadlines                  all lines with their deadlines in the plan
+--   tight_at                        the first line whose deadline is below its length
+use Rattle.std.specs.Prelude.{◌≡◌, ℕ, ◌-◌, ◌<◌, ◌≤◌, min, true, false, cond, not, List, map, filter, length, get_or, Some, None, Option, nat_lt, slice_index_or}
+use Rattle.std.specs.List.{reduce, position_from}
 use Rattle.model.specs.Ranges.{is_regular, blank}
 use Rattle.model.specs.declared.line.Line.{Line}
 use Rattle.model.specs.declared.policy.Policy.{Policy}
 use Rattle.model.specs.declared.policy.Policy.TheVariants.{Dm, Ed}
 
--- The smaller of n and what may be there.
-abbrev pub min_with : ℕ → Option ℕ → ℕ
-min_with n None = n
-min_with n (Some m) = min n m
-
 -- The least deadline of the ordinary lines.
 abbrev pub least_ordinary : List Line → Option ℕ
-least_ordinary [] = None
-least_ordinary (l ∷ ls) = cond (is_regular l) (least_ordinary ls) (Some (min_with l.deadline (least_ordinary ls)))
+least_ordinary ls = reduce min (map (λ l. l.deadline) (filter (λ l. not (is_regular l)) ls))
 
 -- Every ordinary line has deadline m or a later one, and one of them has m.
 pub record IsLeastOrdinary (ls : List Line) (m : ℕ) : Type 0 where
@@ -39,7 +33,7 @@ regular_deadline Dm (Some m) l = min l.deadline (m - 1)
 
 -- An ordinary line keeps its deadline.
 abbrev pub changed : Policy → Option ℕ → Line → Line
-changed p m l = record { kind = l.kind; offset = l.offset; length = l.length; deadline = cond (is_regular l) (regular_deadline p m l) l.deadline; period = l.period }
+changed p m l = record l { deadline = cond (is_regular l) (regular_deadline p m l) l.deadline }
 
 -- Every line changed, by the least ordinary deadline of all.
 abbrev pub with_deadlines : Policy → List Line → List Line
@@ -47,5 +41,4 @@ with_deadlines p ls = map (changed p (least_ordinary ls)) ls
 
 -- The first line whose deadline is below its length; lines are counted from n.
 abbrev pub tight_at : ℕ → List Line → Option ℕ
-tight_at n [] = None
-tight_at n (l ∷ ls) = cond (nat_lt l.deadline l.length) (Some n) (tight_at (n + 1) ls)
+tight_at n ls = position_from (λ l. nat_lt l.deadline l.length) n ls

@@ -1,23 +1,18 @@
 -- The hyperperiod of a list of lines, and its limit.
---   hyper_from, hyperperiod   the least common multiple of all periods, 1 without lines
---   limit                     the longest hyperperiod that a plan may have
---   passes_at                 the first line with which the least common multiple passes the limit
---   PassesFirst               a line is the first with which it does
---   IsHyperperiod             what makes a number the hyperperiod
+--   hyperperiod     the least common multiple of all periods, 1 without lines
+--   limit           the longest hyperperiod that a plan may have
+--   passes_at       the first line with which the least common multiple passes the limit
+--   PassesFirst     a line is the first with which it does
+--   IsHyperperiod   what makes a number the hyperperiod
 use Rattle.std.specs.Prelude.{ℕ, ◌+◌, ◌-◌, ◌<◌, ◌≤◌, cond, List, [], ◌∷◌, length, take, Some, None, Option, nat_lt}
 use Rattle.std.specs.Int.{◌∣◌}
-use Rattle.std.specs.List.{AllByRecursion}
+use Rattle.std.specs.List.{fold, AllByRecursion}
 use Rattle.model.specs.declared.line.Line.{Line}
 use Rattle.windows.specs.Euclid.{lcm_of}
 
--- The least common multiple of h and all periods.
-abbrev pub hyper_from : ℕ → List Line → ℕ
-hyper_from h [] = h
-hyper_from h (l ∷ ls) = hyper_from (lcm_of h l.period) ls
-
 -- The least common multiple of all periods.
 abbrev pub hyperperiod : List Line → ℕ
-hyperperiod ls = hyper_from 1 ls
+hyperperiod ls = fold (λ h l. lcm_of h l.period) 1 ls
 
 -- A plan's hyperperiod is at most a million.
 abbrev pub limit : ℕ

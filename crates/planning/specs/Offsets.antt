@@ -1,32 +1,26 @@
 -- Offsets for the regular lines of a sheet.
---   or_else                  the first of two that there is
 --   short_pair, short_with   the first pair of regular lines that no offsets keep apart
 --   FirstNeverApart          a pair is the first that no offsets keep apart
---   unplaced                 what is known of a line before it has its offset
 --   clear_of                 a line is apart from every regular line of a list
 --   try_from, place          backtracking: line by line, smallest offset first, back where a line has none left
 --   Placing                  a list of lines with lawful offsets
 --   NotAfter                 one such list comes no later than another, in dictionary order
 --   Least                    the first such list
 use Rattle.std.specs.Prelude.{◌≡◌, ℕ, zero, suc, ◌+◌, ◌-◌, ◌<◌, ◌≤◌, Bool, true, false, cond, not, ◌&&◌, ◌||◌, ◌⊎◌, List, [], ◌∷◌, ◌++◌, length, get_or, take, Some, None, Option, slice_index_or}
+use Rattle.std.specs.Option.{option_or, option_map}
+use Rattle.std.specs.List.{list_all, position_from}
 use Rattle.model.specs.Ranges.{is_regular, blank}
 use Rattle.model.specs.declared.line.Line.{Line}
 use Rattle.windows.specs.Windows.{Meet, apart_lines, roomy_lines, at, Crowded}
 
--- The first, or else the second.
-abbrev pub or_else : {X : Type 0} → Option X → Option X → Option X
-or_else (Some x) o = Some x
-or_else None o = o
-
 -- Line i, which is a, against the lines behind it, of which the next is line j.
 abbrev pub short_with : Line → ℕ → ℕ → List Line → Option (ℕ × ℕ)
-short_with a i j [] = None
-short_with a i j (b ∷ bs) = cond (is_regular b && not (roomy_lines a b)) (Some (i, j)) (short_with a i (j + 1) bs)
+short_with a i j bs = option_map (λ k. (i, k)) (position_from (λ b. is_regular b && not (roomy_lines a b)) j bs)
 
 -- Pairs go by their lower line, then by their higher; lines are counted from i.
 abbrev pub short_pair : ℕ → List Line → Option (ℕ × ℕ)
 short_pair i [] = None
-short_pair i (a ∷ bs) = or_else (cond (is_regular a) (short_with a i (i + 1) bs) None) (short_pair (i + 1) bs)
+short_pair i (a ∷ bs) = option_or (cond (is_regular a) (short_with a i (i + 1) bs) None) (short_pair (i + 1) bs)
 
 -- Two regular lines, counted from 1, the lower first, that no offsets keep apart; every two regular
 -- lines before them, by the lower line and then by the higher, are short enough for each other.
@@ -36,19 +30,14 @@ pub record FirstNeverApart (ls : List Line) (pair : ℕ × ℕ) : Type 0 where
   pub never : Crowded (slice_index_or ls (pair.0 - 1) blank) (slice_index_or ls (pair.1 - 1) blank)
   pub before : (i j : ℕ) → i < j → j < length ls → is_regular (slice_index_or ls i blank) ≡ true → is_regular (slice_index_or ls j blank) ≡ true → (i + 1 < pair.0) ⊎ ((i + 1 ≡ pair.0) × (j + 1 < pair.1)) → roomy_lines (slice_index_or ls i blank) (slice_index_or ls j blank) ≡ true
 
--- The offset that a regular line had is of no account.
-abbrev pub unplaced : Line → Line
-unplaced l = cond (is_regular l) (at l 0) l
-
 -- No regular line of the list meets l, by the pair test.
 abbrev pub clear_of : List Line → Line → Bool
-clear_of [] l = true
-clear_of (a ∷ rest) l = (not (is_regular a) || apart_lines a l) && clear_of rest l
+clear_of placed l = list_all (λ a. not (is_regular a) || apart_lines a l) placed
 
 -- The first of n candidates, from o on, that leads to something.
 abbrev pub try_from : {X : Type 0} → ℕ → ℕ → (ℕ → Option X) → Option X
 try_from zero o f = None
-try_from (suc n) o f = or_else (f o) (try_from n (suc o) f)
+try_from (suc n) o f = option_or (f o) (try_from n (o + 1) f)
 
 -- `placed` have their offsets, and the lines behind them get theirs; an ordinary line keeps its own.
 abbrev pub place : List Line → List Line → Option (List Line)

@@ -1,9 +1,8 @@
 -- What a plan's place holds.
 --   plan_set   its policy and its lines
-use Rattle.std.specs.Prelude.{vec_items}
-use Rattle.model.specs.TaskSets.{TaskSet, task_set}
+use Rattle.model.specs.TaskSets.{TaskSet}
 use Rattle.planning.specs.declared.plan.Plan.{Plan}
 
 -- What the plan says: its policy and its lines.
 abbrev pub plan_set : Plan → TaskSet
-plan_set p = task_set p.policy (vec_items p.lines)
+plan_set p = p.tasks

@@ -6,4 +6,4 @@ mod deadlines;
 mod hyperperiod;
 mod offsets;
 pub mod plan;
-mod regular;
+mod steps;

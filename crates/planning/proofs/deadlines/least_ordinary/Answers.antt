@@ -1,26 +1,20 @@
-use Rattle.std.proofs.Common.{◌≡◌, ◌+◌, drop, Some, sym, ap, ◌∙◌, subst, MatchOption}
-use Rattle.std.proofs.lemmas.List.{at_drop_all}
+use Rattle.std.proofs.Common.{◌≡◌, not, sym, subst, ◌∙◌, MatchOption, rules}
+use Rattle.std.proofs.lemmas.Iterator.{YieldsList-from_slice, YieldsList-from_map}
+use Rattle.std.proofs.lemmas.Iterator.Adapters.{option_map_id}
+use Rattle.std.proofs.lemmas.Iterator.Consumers.{YieldsList-at, YieldsList-from_filter, min_from_yields_List}
+use borrow.Author.Tests.{tests}
+use Rattle.model.specs.Ranges.{is_regular}
 use Rattle.planning.specs.Deadlines.{least_ordinary, IsLeastOrdinary, NoneOrdinary}
-use Rattle.planning.proofs.LeastDeadline.{joined, joined_none, regular_more, ordinary_more, least_is}
+use Rattle.planning.proofs.LeastDeadline.{least_is}
 use Rattle.planning.proofs.deadlines.least_ordinary.Goals as goal
-use Rattle.planning.proofs.deadlines.least_ordinary.Goals.{then-not-is_regular, else-not-is_regular}
 
-pub loop-line-preserved : goal.loop-line-preserved
-loop-line-preserved c =
+pub returns-clause-least : goal.returns-clause-least
+returns-clause-least c =
     let ls = c.args.lines.now in
-    let i = c.loop-line.line-index in
-    let after = least_ordinary (drop (i + 1) ls) in
-    let inside = c.loop-line-test.true in
-    elim c.if-not-is_regular.branch [
-      | then-not-is_regular w ↦
-          ap (λ o. joined o after) (w.least-is ∙ ap Some w.smaller.ensures) ∙ ordinary_more ls i inside (sym w.if-not-is_regular.ensures) c.loop-line.least ∙ c.loop-line.invariant
-      | else-not-is_regular w ↦
-          ap (λ o. joined o after) w.least-is ∙ ap (joined c.loop-line.least) (regular_more ls i inside (sym w.if-not-is_regular.ensures)) ∙ c.loop-line.invariant
-    ]
-
-pub returns : goal.returns
-returns c =
-    let ls = c.args.lines.now in
-    let value : c.loop-line.least ≡ least_ordinary ls =
-    sym (joined_none c.loop-line.least) ∙ ap (joined c.loop-line.least) (sym (at_drop_all least_ordinary ls c.loop-line.line-index c.loop-line-test.false)) ∙ c.loop-line.invariant in
-    record { value = value; least = subst (λ o. MatchOption o (NoneOrdinary ls) (IsLeastOrdinary ls)) (sym value) (least_is ls) }
+    let value : c.min.result ≡ least_ordinary ls =
+    sym (option_map_id c.min.result)
+    ∙ min_from_yields_List c.map.result c.min.result c.min.ensures.ran
+    (YieldsList-from_map _ (λ l. l.deadline)
+    (YieldsList-at c.map.ensures.source (YieldsList-from_filter _ (λ l. not (is_regular l)) (YieldsList-at c.filter.ensures.source (YieldsList-from_slice ls cc)) c.filter.ensures.closure (λ x b q k. search (rules, tests))))
+    c.map.ensures.closure (λ x r q k. search rules)) in
+    subst (λ o. MatchOption o (NoneOrdinary ls) (IsLeastOrdinary ls)) (sym value) (least_is ls)

@@ -1,14 +1,15 @@
-use Rattle.std.proofs.Common.{◌+◌, true, false, sym, ◌∙◌}
-use Rattle.std.proofs.lemmas.List.{at_drop_all}
-use Rattle.planning.specs.Deadlines.{tight_at}
-use Rattle.planning.proofs.Tight.{tight_more}
+use Rattle.std.proofs.Common.{rules, ◌≡◌, ◌+◌, nat_lt, ap, ◌∙◌}
+use Rattle.std.specs.Option.{option_map}
+use Rattle.std.proofs.lemmas.Iterator.{YieldsList-from_slice}
+use Rattle.std.proofs.lemmas.Iterator.Search.{position_from_yields_List}
+use borrow.Author.Tests.{tests}
+use Rattle.planning.proofs.Positions.{line_number}
 use Rattle.planning.proofs.deadlines.tight_line.Goals as goal
 
-pub returns-then-is_tight : goal.returns-then-is_tight
-returns-then-is_tight c = tight_more c.args.lines.now c.loop-i.i c.loop-i-test.true true c.if-is_tight.ensures ∙ c.loop-i.invariant
-
-pub loop-i-preserved : goal.loop-i-preserved
-loop-i-preserved c = tight_more c.args.lines.now c.loop-i.i c.loop-i-test.true false c.if-is_tight.ensures ∙ c.loop-i.invariant
-
 pub returns : goal.returns
-returns c = sym (at_drop_all (tight_at (c.loop-i.i + 1)) c.args.lines.now c.loop-i.i c.loop-i-test.false) ∙ c.loop-i.invariant
+returns c =
+    let ls = c.args.lines.now.items in
+    let moved : c.map.result ≡ option_map (λ i. i + 1) c.position.result = search rules in
+    moved
+    ∙ ap (option_map (λ i. i + 1)) (position_from_yields_List (λ l. nat_lt l.deadline l.length) _ _ _ c.position.ensures.ran (YieldsList-from_slice ls cc) (λ x b q k. search (rules, tests)))
+    ∙ line_number (λ l. nat_lt l.deadline l.length) ls

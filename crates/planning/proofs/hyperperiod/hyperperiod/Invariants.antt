@@ -1,5 +1,6 @@
 use Rattle.std.proofs.Common.{◌≡◌, ◌+◌, drop}
-use Rattle.planning.specs.Hyperperiods.{hyper_from, passes_at}
+use Rattle.planning.specs.Hyperperiods.{passes_at}
+use Rattle.planning.proofs.Multiples.{hyper_from}
 use Rattle.planning.proofs.hyperperiod.hyperperiod.Given as goal
 
 abbrev pub invariant-loop-i : goal.invariant-loop-i

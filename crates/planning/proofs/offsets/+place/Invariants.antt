@@ -1,14 +1,16 @@
-use Rattle.std.proofs.Common.{◌≡◌, ◌+◌, ◌-◌, map, length, get_or, take, drop}
-use Rattle.model.specs.Ranges.{blank}
-use Rattle.planning.proofs.Unplaced.{candidate}
-use Rattle.planning.specs.Offsets.{place, try_from, unplaced}
+use Rattle.std.proofs.Common.{◌≡◌, ◌+◌, ◌-◌, ◌*◌, length}
+use Rattle.planning.proofs.Candidates.{candidate}
+use Rattle.planning.specs.Offsets.{place, try_from}
 use Rattle.planning.proofs.offsets.+place.Given as goal
 
--- the candidates from n on lead where the search leads
-abbrev pub invariant-loop-n : goal.invariant-loop-n
-invariant-loop-n l =
-    (take l.at l.lines ≡ take l.at l.initial.lines) × (map unplaced (drop l.at l.lines) ≡ map unplaced (drop l.at l.initial.lines))
-    × (try_from ((get_or l.initial.lines l.at blank).period - l.n) l.n (candidate (take l.at l.initial.lines) (get_or l.initial.lines l.at blank) (drop (l.at + 1) l.initial.lines)) ≡ place (take l.at l.initial.lines) (drop l.at l.initial.lines))
-
 abbrev pub decreases-place : goal.decreases-place
-decreases-place l = length l.lines.now - l.at
+decreases-place l = length l.left.now * 2
+
+abbrev pub decreases-place_behind : goal.decreases-place_behind
+decreases-place_behind l = length l.left.now * 2 + 1
+
+-- the candidates from this offset on lead where the search leads
+abbrev pub invariant-place-loop-offset : goal.invariant-place-loop-offset
+invariant-place-loop-offset l =
+    (l.placed.items ≡ l.fn.placed.items)
+    × (try_from (l.line.period - l.offset) l.offset (candidate l.fn.placed.items l.line l.rest) ≡ place l.fn.placed.items l.fn.left)
