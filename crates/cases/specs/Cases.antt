@@ -26,12 +26,12 @@ use Rattle.executive.specs.Questions.{figures_in, coming_of, worst_of}
 use Rattle.runs.specs.Calls.{begun}
 use Rattle.runs.specs.Histories.{History, clock_of, line_at, units_in, rests_after, release, releases_in}
 use Rattle.runs.specs.Jitter.{deviations}
-use Rattle.runs.specs.RehearsalRules.{state_at, units_left}
-use Rattle.runs.specs.Rehearsals.{last_offset}
+use Rattle.runs.specs.RehearsalRules.{state_at}
+use Rattle.runs.specs.Rehearsals.{last_offset, units_left}
 use Rattle.runs.specs.Starts.{starts_of}
 use Rattle.runs.specs.Tasks.{job_of}
 use Rattle.report.specs.Reports.{report_of}
-use Rattle.cases.specs.Wording.{regular, ordinary, dm, ed, reported, rehearsing, regular_job, ordinary_job, unit, idle, begins, goes_on, ends, whole, done, refused, Runs, counted, state_after, starts, figures}
+use Rattle.cases.specs.Wording.{regular, ordinary, dm, ed, reported, rehearsing, regular_job, ordinary_job, unit, idle, idle_with, begins, goes_on, ends, whole, done, refused, Runs, counted, state_after, starts, figures}
 
 -- The sheet that the rule book prints.
 abbrev pub printed_text : List ℕ
@@ -143,7 +143,7 @@ pub record Cases : Type 0 where
   pub miss_counted : map (λ x. x.counts) (state_at dm_ahead starved 4) ≡ counted 2 2 0 ∷ counted 2 0 1 ∷ []
   pub miss_told : counts_in 2 (state_at dm_ahead starved 4) ≡ Ok (record { made = 2; ended = 0; missed = 1; aside = 0; pending = 1 })
   -- A job that is past its deadline is struck out also where nobody gets the unit.
-  pub struck_when_idle : Runs (ordinary 0 2 1 4 ∷ []) 0 (begins 1 ∷ unit 0 false false 1 ∷ [])
+  pub struck_when_idle : Runs (ordinary 0 2 1 4 ∷ []) 0 (begins 1 ∷ idle_with 1 ∷ [])
   -- A ranking sees a job's line, kind, release, D* and T.
   pub job_seen : map job_of (state_at dm_ahead (ordinary 2 4 5 16 ∷ []) 3) ≡ ordinary_job 1 2 5 ∷ []
   -- The first mark of the rehearsal goes by the largest first release.

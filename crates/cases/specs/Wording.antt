@@ -4,14 +4,16 @@
 --   reported            a fault: its number, its layer and its two places
 --   rehearsing          the rehearsal of lines under a ranking
 --   regular_job, ordinary_job   a job: its line, its release and its D*
---   unit                a step and its reply
---   idle, begins, goes_on, ends, whole   steps that struck nothing out
+--   stepped             a step and its reply
+--   unit                a step whose unit was a line's
+--   idle_with, idle     a step whose unit was nobody's
+--   begins, goes_on, ends, whole   steps that struck nothing out
 --   done, refused       other calls and their replies
 --   Runs                an executive replies so to these calls
 --   counted             the counts of a line that never rested
 --   state_after         what an executive is left with after these calls
 --   starts, figures     a start: its round and its instant; five jitter figures
-use Rattle.std.specs.Prelude.{ℕ, Bool, true, false, List, [], ◌∷◌, Result}
+use Rattle.std.specs.Prelude.{ℕ, Bool, true, false, List, fold, Some, None, Ok, Err, Option, Result}
 use Rattle.model.specs.declared.fault.Fault.{Fault}
 use Rattle.model.specs.declared.fault.FaultCode.{FaultCode}
 use Rattle.model.specs.declared.job.Job.{Job}
@@ -22,15 +24,14 @@ use Rattle.model.specs.declared.policy.Policy.TheVariants.{Dm, Ed}
 use Rattle.model.specs.Rankings.{dm_ahead}
 use Rattle.model.specs.TaskSets.{TaskSet, task_set}
 use Rattle.planning.specs.Hyperperiods.{hyperperiod}
+use Rattle.runs.specs.declared.call.Accepted.TheVariants.{Done}
 use Rattle.runs.specs.declared.call.Call.{Call}
-use Rattle.runs.specs.declared.call.Call.TheVariants.{Step}
-use Rattle.runs.specs.declared.call.Reply.TheVariants.{Done, Refused}
-use Rattle.runs.specs.declared.call.Reply.TheVariants.{Unit as UnitGiven}
+use Rattle.runs.specs.declared.call.UnitReport.{UnitReport}
 use Rattle.runs.specs.declared.jitter.Figures.{Figures}
 use Rattle.runs.specs.declared.jitter.Start.{Start}
 use Rattle.runs.specs.declared.task.Counts.{Counts}
 use Rattle.runs.specs.Calls.{State, begun, next_of}
-use Rattle.runs.specs.Histories.{Event, History, event, Ran}
+use Rattle.runs.specs.Histories.{Event, History, event, unit_event, Ran}
 use Rattle.runs.specs.Rehearsals.{rehearsal_of}
 
 abbrev line : Kind → ℕ → ℕ → ℕ → ℕ → Line
@@ -71,13 +72,21 @@ regular_job = job Regular
 abbrev pub ordinary_job : ℕ → ℕ → ℕ → Job
 ordinary_job = job Ordinary
 
--- An accepted step: who had the unit, whether the job began and ended, and how many were struck out.
+-- An accepted step: whose the unit was, and how many were struck out.
+abbrev stepped : Option UnitReport → ℕ → Event
+stepped o n = unit_event (record { unit = o; struck = n })
+
+-- A line had the unit: whether the job began and ended, and how many were struck out.
 abbrev pub unit : ℕ → Bool → Bool → ℕ → Event
-unit l b e n = event Step (UnitGiven (record { line = l; began = b; ended = e; struck = n }))
+unit l b e n = stepped (Some (record { line = l; began = b; ended = e })) n
+
+-- Nobody had the unit, and so many were struck out.
+abbrev pub idle_with : ℕ → Event
+idle_with n = stepped None n
 
 -- Nobody had the unit.
 abbrev pub idle : Event
-idle = unit 0 false false 0
+idle = idle_with 0
 
 -- A job of this line had its first unit, and more are left.
 abbrev pub begins : ℕ → Event
@@ -97,11 +106,11 @@ whole l = unit l true true 0
 
 -- A call that was accepted.
 abbrev pub done : Call → Event
-done c = event c Done
+done c = event c (Ok Done)
 
 -- A call that was refused.
 abbrev pub refused : Call → Fault → Event
-refused c f = event c (Refused f)
+refused c f = event c (Err f)
 
 -- Under DM an executive that is started on these lines at this instant gives these replies to these calls.
 pub record Runs (ls : List Line) (start : ℕ) (h : History) : Type 0 where
@@ -114,11 +123,7 @@ counted m e x = record { made = m; ended = e; missed = x; aside = 0 }
 
 -- Under DM an executive that is started on these lines at this instant is left so by the calls of a history.
 abbrev pub state_after : List Line → ℕ → History → State
-state_after ls start h = on_from (begun start ls) h
-  where
-    on_from : State → History → State
-    on_from s [] = s
-    on_from s (e ∷ h) = on_from (next_of dm_ahead s e.call).0 h
+state_after ls start h = fold (λ s e. (next_of dm_ahead s e.call).0) (begun start ls) h
 
 -- A start: the round of its job, and its instant.
 abbrev pub starts : ℕ → ℕ → Start

@@ -7,15 +7,11 @@ ghost use Rattle.cases.specs.Cases.{Cases};
 ghost use Rattle.cases.specs.Edges.{Edges};
 
 // Every worked case comes out as the rules say.
-pub fn worked_cases() -> u8
+pub fn worked_cases()
     ensures { Cases }
-{
-    0
-}
+{}
 
 // So do both sides of every bound of reading and printing.
-pub fn edge_cases() -> u8
+pub fn edge_cases()
     ensures { Edges }
-{
-    0
-}
+{}

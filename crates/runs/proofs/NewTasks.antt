@@ -15,7 +15,7 @@ length_new_tasks n (l ∷ ls) = ap suc (length_new_tasks (n + 1) ls)
 pub new_tasks_at : (n : ℕ) (ls : List Line) (k : ℕ) (d : Task) (e : Line) → k < length ls → get_or (new_tasks n ls) k d ≡ new_task (n + k) (get_or ls k e)
 new_tasks_at n [] k d e h = absurd (omega arith)
 new_tasks_at n (l ∷ ls) zero d e h = ap (λ m. new_task m l) (omega arith)
-new_tasks_at n (l ∷ ls) (suc k) d e h = new_tasks_at (n + 1) ls k d e (omega arith) ∙ ap (λ m. new_task m (get_or ls k e)) (omega arith)
+new_tasks_at n (l ∷ ls) (suc k) d e h = grind (arith, (new_tasks_at (n + 1) ls k d e (omega arith)))
 
 -- a list that holds the new line at every place
 pub new_tasks_from : (xs : List Task) (ls : List Line) → length xs ≡ length ls → ((k : ℕ) → k < length ls → get_or xs k blank_task ≡ new_task (k + 1) (get_or ls k blank)) → xs ≡ new_tasks 1 ls
@@ -28,9 +28,7 @@ new_numbered n (l ∷ ls) = (refl, new_numbered (n + 1) ls)
 
 new_timed : (n : ℕ) (ls : List Line) → AllRanged ls → AllByRecursion Timed (new_tasks n ls)
 new_timed n [] h = tt
-new_timed n (l ∷ ls) h =
-    let first = h 0 (omega arith) in
-    ((omega (arith, first.1, first.2, first.3), omega arith), new_timed (n + 1) ls (λ i below. h (suc i) (omega arith)))
+new_timed n (l ∷ ls) h = grind (arith, h 0, new_timed (n + 1) ls (λ i below. h (suc i) (omega arith)))
 
 pub new_well_formed : (ls : List Line) → length ls ≤ 24 → AllRanged ls → WellFormed (new_tasks 1 ls)
-new_well_formed ls few ranged = (new_numbered 1 ls, omega (arith, length_new_tasks 1 ls), new_timed 1 ls ranged)
+new_well_formed ls few ranged = grind (arith, new_numbered, length_new_tasks, new_timed)

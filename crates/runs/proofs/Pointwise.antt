@@ -1,6 +1,7 @@
 -- What a step and the calls between steps do, line by line.
-use Rattle.std.proofs.Common.{◌≡◌, ℕ, ◌<◌, Bool, cond, eqb, List, length, get_or, ap, ◌∙◌}
+use Rattle.std.proofs.Common.{◌≡◌, ℕ, ◌<◌, Bool, cond, eqb, List, length, get_or, ap, ◌∙◌, arith}
 use Rattle.std.proofs.lemmas.List.{length-map, get_or-map}
+use Rattle.std.proofs.lemmas.Grind.{common_steps}
 use Rattle.model.specs.declared.job.Job.{Job}
 use Rattle.runs.specs.declared.task.Task.{Task}
 use Rattle.runs.specs.Tasks.{arrived, served, blank_task}
@@ -22,7 +23,7 @@ pub length_arrived : (t : ℕ) (xs : List Task) → length (arrived_all t xs) �
 length_arrived t xs = length-map xs (arrived t)
 
 pub length_stepped : (ahead : Job → Job → Bool) (t : ℕ) (xs : List Task) → length (stepped ahead t xs) ≡ length xs
-length_stepped ahead t xs = length-map (arrived_all t xs) (served (who ahead t xs)) ∙ length_arrived t xs
+length_stepped ahead t xs = grind (arith, common_steps)
 
 pub stepped_at : (ahead : Job → Job → Bool) (t : ℕ) (xs : List Task) (i : ℕ) → i < length xs → task_of (stepped ahead t xs) i ≡ served (who ahead t xs) (arrived t (task_of xs i))
 stepped_at ahead t xs i h =
@@ -33,4 +34,4 @@ pub length_on_line : (n : ℕ) (f : Task → Task) (xs : List Task) → length (
 length_on_line n f xs = length-map xs (λ x. cond (eqb x.number n) (f x) x)
 
 pub on_line_at : (n : ℕ) (f : Task → Task) (xs : List Task) (i : ℕ) → i < length xs → task_of (on_line n f xs) i ≡ cond (eqb (task_of xs i).number n) (f (task_of xs i)) (task_of xs i)
-on_line_at n f xs i h = get_or-map (λ x. cond (eqb x.number n) (f x) x) xs i blank_task blank_task h
+on_line_at n f xs i h = grind (arith, common_steps)

@@ -1,45 +1,26 @@
 -- The rehearsal keeps its rules, and they permit no other result.
-use Rattle.std.proofs.Common.{◌≡◌, ℕ, zero, suc, ◌+◌, ◌<◌, ◌≤◌, Bool, true, false, eqb, ltb, ◌⊎◌, List, [], ◌∷◌, Ok, Err, Result, sym, refl, ap, ◌∙◌, subst, inl, inr, ⊎_elim, arith}
-use Rattle.std.proofs.lemmas.Bool.{cases_lt, cases_eq, cases_Bool, cases_order, cond-true, cond-false, both_ways, and_parts, and_from, eqb-true, eq-eqb, ne_eqb, lt-ltb, le-ltb}
+use Rattle.std.proofs.Common.{inl, inr, ◌≡◌, ℕ, zero, suc, ◌+◌, ◌<◌, ◌≤◌, Bool, ltb, ◌⊎◌, List, Some, None, Ok, Err, Option, Result, sym, refl, subst, arith, rules}
+use Rattle.std.proofs.lemmas.Slice.Eq.{bytes_eq-Decides}
+use Rattle.std.proofs.lemmas.Bool.{ltb-true, ltb-false, cond_both, both_ways}
 use Rattle.model.specs.declared.fault.Fault.{Fault}
-use Rattle.model.specs.declared.fault.Fault.TheVariants.{Missed, Unsettled}
+use Rattle.model.specs.declared.fault.Fault.TheVariants.{Missed}
 use Rattle.model.specs.declared.job.Job.{Job}
 use Rattle.model.specs.declared.line.Line.{Line}
 use Rattle.runs.specs.declared.task.Task.{Task}
 use Rattle.runs.specs.Tasks.{new_tasks}
 use Rattle.runs.specs.Steps.{Numbered, lowest_due}
-use Rattle.runs.specs.Rehearsals.{load_of, run_units, same_left, settled, and_then, between_marks, rehearsal_of}
-use Rattle.runs.specs.RehearsalRules.{OnlyRehearsed, state_at, NoneStruckBelow, LowestStruck, units_left, first_mark, second_mark, Rehearsed, passed, overload, missed, unsettled}
+use Rattle.runs.specs.Rehearsals.{load_of, units_left, run_units, same_left, settled, and_then, between_marks, rehearsal_of}
+use Rattle.runs.specs.RehearsalRules.{OnlyRehearsed, state_at, NoneStruckBelow, LowestStruck, first_mark, second_mark, Rehearsed, passed, overload, missed, unsettled}
 use Rattle.runs.proofs.Keeps.{stepped_numbered}
-use Rattle.runs.proofs.Lowest.{lowest_zero, lowest_struck, lowest_struck_once, struck_not_clear}
+use Rattle.runs.proofs.Lowest.{lowest_none, lowest_struck, lowest_struck_once, struck_not_clear}
 use Rattle.runs.proofs.NewTasks.{new_numbered}
-
--- the comparison at the marks, in both directions
-same_units : (xs ys : List Task) → same_left xs ys ≡ true → units_left xs ≡ units_left ys
-same_units [] [] e = refl
-same_units [] (y ∷ ys) e = absurd (both_ways _ refl e)
-same_units (x ∷ xs) [] e = absurd (both_ways _ refl e)
-same_units (x ∷ xs) (y ∷ ys) e =
-    let parts = and_parts (eqb x.left y.left) (same_left xs ys) e in
-    let head = eqb-true x.left y.left parts.0 in
-    let tail = same_units xs ys parts.1 in
-    cc
-
-same_left_lem : (xs ys : List Task) → units_left xs ≡ units_left ys → same_left xs ys ≡ true
-same_left_lem [] [] e = refl
-same_left_lem [] (y ∷ ys) e = let z : ◌≡◌ {A = ℕ} 0 1 = cc in absurd (omega arith)
-same_left_lem (x ∷ xs) [] e = let z : ◌≡◌ {A = ℕ} 0 1 = cc in absurd (omega arith)
-same_left_lem (x ∷ xs) (y ∷ ys) e =
-    let head : x.left ≡ y.left = cc in
-    let tail : units_left xs ≡ units_left ys = cc in
-    and_from (eqb x.left y.left) (same_left xs ys) (eq-eqb _ _ head) (same_left_lem xs ys tail)
 
 module _ (ahead : Job → Job → Bool) (ls : List Line) where
   state_numbered : (t : ℕ) → Numbered 1 (state_at ahead ls t)
   state_numbered zero = new_numbered 1 ls
-  state_numbered (suc t) = stepped_numbered ahead t (state_at ahead ls t) 1 (state_numbered t)
+  state_numbered (suc t) = search (rules, stepped_numbered, (state_numbered t))
 
-  abbrev lowest_at : ℕ → ℕ
+  abbrev lowest_at : ℕ → Option ℕ
   lowest_at t = lowest_due t (state_at ahead ls t)
 
   abbrev run_of : ℕ → ℕ → Result (List Task) Fault
@@ -47,90 +28,59 @@ module _ (ahead : Job → Job → Bool) (ls : List Line) where
 
   -- the run comes to its end with nothing struck out, or stops at the first instant that strikes one out
   abbrev Went : ℕ → ℕ → ℕ → Type 0
-  Went n t end = ((u : ℕ) → t ≤ u → u < end → lowest_at u ≡ 0) × (run_of n t ≡ Ok (state_at ahead ls end))
+  Went n t end = ((u : ℕ) → t ≤ u → u < end → lowest_at u ≡ None) × (run_of n t ≡ Ok (state_at ahead ls end))
 
   abbrev Stopped : ℕ → ℕ → ℕ → Type 0
-  Stopped n t end = (u : ℕ) × (t ≤ u) × (u < end) × ((v : ℕ) → t ≤ v → v < u → lowest_at v ≡ 0) × (lowest_at u ≡ 0 → ⊥) × (run_of n t ≡ Err (Missed u (lowest_at u)))
-
-  also_before : (t u : ℕ) → lowest_at t ≡ 0 → ((v : ℕ) → suc t ≤ v → v < u → lowest_at v ≡ 0) → (v : ℕ) → t ≤ v → v < u → lowest_at v ≡ 0
-  also_before t u e rest v p q = ⊎_elim (λ (same : t ≡ v). subst (λ w. lowest_at w ≡ 0) same e) (λ (later : t ≡ v → ⊥). rest v (omega arith) q) (cases_eq t v)
+  Stopped n t end = (u l : ℕ) × (t ≤ u) × (u < end) × ((v : ℕ) → t ≤ v → v < u → lowest_at v ≡ None) × (lowest_at u ≡ Some l) × (run_of n t ≡ Err (Missed u l))
 
   run_ends : (n t end : ℕ) → end ≡ t + n → Went n t end ⊎ Stopped n t end
-  run_ends zero t end e =
-      let here : t ≡ end = omega arith in
-      inl ((λ u p q. absurd (omega arith)), ap (λ m. Ok (state_at ahead ls m)) here)
+  run_ends zero t end e = grind arith
   run_ends (suc n) t end e =
-      ⊎_elim
-      (λ (none : lowest_at t ≡ 0).
-      let on : run_of (suc n) t ≡ run_of n (suc t) = cond-true (eqb (lowest_at t) 0) _ _ (eq-eqb _ _ none) in
-      ⊎_elim
-      (λ (w : Went n (suc t) end). inl (also_before t end none w.0, on ∙ w.1))
-      (λ (s : Stopped n (suc t) end). inr (s.0, omega (arith, s.1), s.2, also_before t s.0 none s.3, s.4, on ∙ s.5))
-      (run_ends n (suc t) end (omega arith)))
-      (λ (some : lowest_at t ≡ 0 → ⊥). inr (t, omega arith, omega arith, (λ v p q. absurd (omega arith)), some, cond-false (eqb (lowest_at t) 0) _ _ (ne_eqb _ _ some)))
-      (cases_eq (lowest_at t) 0)
+      elim (lowest_at t) as (λ o. lowest_at t ≡ o → Went (suc n) t end ⊎ Stopped (suc n) t end) [
+        | None ↦ λ is. grind (arith, run_ends n (suc t) end (omega arith))
+        | Some l ↦ λ is. grind arith
+      ] refl
 
-  clear_below : (n : ℕ) → ((u : ℕ) → u < n → lowest_at u ≡ 0) → NoneStruckBelow ahead ls n
-  clear_below n quiet t h = lowest_zero t 1 (state_at ahead ls t) (omega arith) (state_numbered t) (quiet t h)
+  clear_below : (n : ℕ) → ((u : ℕ) → u < n → lowest_at u ≡ None) → NoneStruckBelow ahead ls n
+  clear_below n quiet t h = grind (arith, lowest_none)
 
   module _ (h : ℕ) where
-    struck_first : (u : ℕ) → load_of h ls ≤ h → u < second_mark h ls → ((v : ℕ) → v < u → lowest_at v ≡ 0) → (lowest_at u ≡ 0 → ⊥) → Rehearsed ahead h ls (Err (Missed u (lowest_at u)))
-    struck_first u light in' quiet some = missed u (lowest_at u) light in' (clear_below u quiet) (lowest_struck u (state_at ahead ls u) (state_numbered u) some)
+    struck_first : (u l : ℕ) → load_of h ls ≤ h → u < second_mark h ls → ((v : ℕ) → v < u → lowest_at v ≡ None) → lowest_at u ≡ Some l → Rehearsed ahead h ls (Err (Missed u l))
+    struck_first u l light in' quiet some = missed u l light in' (clear_below u quiet) (lowest_struck u (state_at ahead ls u) (state_numbered u) l some)
 
     compared : load_of h ls ≤ h → NoneStruckBelow ahead ls (second_mark h ls) → Rehearsed ahead h ls (settled (state_at ahead ls (first_mark h ls)) (state_at ahead ls (second_mark h ls)))
     compared light clear =
         let xs = state_at ahead ls (first_mark h ls) in
         let ys = state_at ahead ls (second_mark h ls) in
-        ⊎_elim
-        (λ (same : same_left xs ys ≡ true). subst (Rehearsed ahead h ls) (sym (cond-true (same_left xs ys) (Ok tt) (Err Unsettled) same)) (passed light clear (same_units xs ys same)))
-        (λ (differ : same_left xs ys ≡ false). subst (Rehearsed ahead h ls) (sym (cond-false (same_left xs ys) (Ok tt) (Err Unsettled) differ)) (unsettled light clear (λ e. both_ways _ differ (same_left_lem xs ys e))))
-        (cases_Bool (same_left xs ys))
+        let same = bytes_eq-Decides (units_left xs) (units_left ys) in
+        cond_both (same_left xs ys) _ _ (Rehearsed ahead h ls) (λ e. passed light clear (same.0 e)) (λ e. unsettled light clear (λ p. both_ways _ e (same.1 p)))
 
     abbrev after_first : List Task → Result (Unit {0}) Fault
     after_first first = and_then (run_units ahead h (first_mark h ls) first) (λ second. settled first second)
 
     -- from the first mark on
-    to_second : load_of h ls ≤ h → ((u : ℕ) → u < first_mark h ls → lowest_at u ≡ 0) → Rehearsed ahead h ls (after_first (state_at ahead ls (first_mark h ls)))
+    to_second : load_of h ls ≤ h → ((u : ℕ) → u < first_mark h ls → lowest_at u ≡ None) → Rehearsed ahead h ls (after_first (state_at ahead ls (first_mark h ls)))
     to_second light quiet =
         let m = first_mark h ls in
-        let before : (n : ℕ) → ((u : ℕ) → m ≤ u → u < n → lowest_at u ≡ 0) → (u : ℕ) → u < n → lowest_at u ≡ 0 = λ n rest u q. ⊎_elim (quiet u) (λ (p : m ≤ u). rest u p q) (cases_lt u m) in
-        ⊎_elim
-        (λ (w : Went h m (second_mark h ls)). subst (λ r. Rehearsed ahead h ls (and_then r (λ second. settled (state_at ahead ls m) second))) (sym w.1) (compared light (clear_below (second_mark h ls) (before (second_mark h ls) w.0))))
-        (λ (s : Stopped h m (second_mark h ls)). subst (λ r. Rehearsed ahead h ls (and_then r (λ second. settled (state_at ahead ls m) second))) (sym s.5) (struck_first s.0 light s.2 (before s.0 s.3) s.4))
-        (run_ends h m (second_mark h ls) refl)
+        grind (arith, compared light, clear_below (second_mark h ls), struck_first, run_ends h m (second_mark h ls))
 
     at_marks : load_of h ls ≤ h → Rehearsed ahead h ls (between_marks ahead (first_mark h ls) h (new_tasks 1 ls))
     at_marks light =
         let m = first_mark h ls in
-        let start : m ≡ 0 + m = omega arith in
-        ⊎_elim
-        (λ (w : Went m 0 m). subst (λ r. Rehearsed ahead h ls (and_then r after_first)) (sym w.1) (to_second light (λ u q. w.0 u (omega arith) q)))
-        (λ (s : Stopped m 0 m). subst (λ r. Rehearsed ahead h ls (and_then r after_first)) (sym s.5) (struck_first s.0 light (omega (arith, s.2)) (λ v q. s.3 v (omega arith) q) s.4))
-        (run_ends m 0 m start)
+        elim (run_ends m 0 m (omega arith)) [
+          | inl w ↦ subst (λ r. Rehearsed ahead h ls (and_then r after_first)) (sym w.1) (to_second light (λ u q. w.0 u (omega arith) q))
+          | inr s ↦ subst (λ r. Rehearsed ahead h ls (and_then r after_first)) (sym s.6) (struck_first s.0 s.1 light (omega (arith, s.3)) (λ v q. s.4 v (omega arith) q) s.5)
+        ]
 
     pub keeps_rules : Rehearsed ahead h ls (rehearsal_of ahead h ls)
-    keeps_rules =
-        ⊎_elim
-        (λ (over : h < load_of h ls). subst (Rehearsed ahead h ls) (sym (cond-true (ltb h (load_of h ls)) _ _ (lt-ltb _ _ over))) (overload over))
-        (λ (light : load_of h ls ≤ h). subst (Rehearsed ahead h ls) (sym (cond-false (ltb h (load_of h ls)) _ _ (le-ltb _ _ light))) (at_marks light))
-        (cases_lt h (load_of h ls))
+    keeps_rules = cond_both (ltb h (load_of h ls)) _ _ (Rehearsed ahead h ls) (λ e. overload (ltb-true h (load_of h ls) e)) (λ e. at_marks (ltb-false h (load_of h ls) e))
 
   -- what no two results have in common
   struck_later : (h t line : ℕ) → t < second_mark h ls → LowestStruck t (state_at ahead ls t) line → NoneStruckBelow ahead ls (second_mark h ls) → ⊥
-  struck_later h t line in' struck clear = struck_not_clear t (state_at ahead ls t) line struck (clear t in')
+  struck_later h t line in' struck clear = grind (arith, struck_not_clear)
 
   same_miss : (t u l m : ℕ) → NoneStruckBelow ahead ls t → LowestStruck t (state_at ahead ls t) l → NoneStruckBelow ahead ls u → LowestStruck u (state_at ahead ls u) m → ◌≡◌ {A = Result (Unit {0}) Fault} (Err (Missed t l)) (Err (Missed u m))
-  same_miss t u l m clear struck clear' struck' =
-      ⊎_elim
-      (λ (same : t ≡ u).
-      let line : l ≡ m = lowest_struck_once u (state_at ahead ls u) l m (subst (λ v. LowestStruck v (state_at ahead ls v) l) same struck) struck' in
-      cc)
-      (λ (apart : (t < u) ⊎ (u < t)).
-      ⊎_elim
-      (λ (low : t < u). absurd (struck_not_clear t (state_at ahead ls t) l struck (clear' t low)))
-      (λ (high : u < t). absurd (struck_not_clear u (state_at ahead ls u) m struck' (clear u high)))
-      apart)
-      (cases_order t u)
+  same_miss t u l m clear struck clear' struck' = grind (arith, lowest_struck_once u (state_at ahead ls u) l m, struck_not_clear t (state_at ahead ls t) l, struck_not_clear u (state_at ahead ls u) m)
 
   pub one_result : (h : ℕ) {q r : Result (Unit {0}) Fault} → Rehearsed ahead h ls q → Rehearsed ahead h ls r → q ≡ r
   one_result h (passed a b c) (passed d e f) = refl

@@ -6,10 +6,12 @@
 --   figures_of      a line's figures, by its starts
 --   noted           a track with one start more
 --   track_figures   the figures of a track
---   note_start      all tracks after a step
-use Rattle.std.specs.Prelude.{ℕ, ◌+◌, ◌-◌, ◌*◌, ◌/◌, max, cond, List, [], ◌∷◌, map, length, get_or, Some, None, fold, sum, Option, slice_index_or, slice_set}
+--   note_unit, note_start   all tracks after a unit, and after a step
+use Rattle.std.specs.Prelude.{ℕ, ◌+◌, ◌-◌, ◌*◌, ◌/◌, max, if◌then◌else◌, List, map, length, drop, zip, Some, None, fold, sum, Option, option_map, unwrap_or, slice_index_or, slice_set}
+use Rattle.std.specs.Int.{abs_diff}
 use Rattle.model.specs.declared.line.Line.{Line}
 use Rattle.runs.specs.declared.call.StepReport.{StepReport}
+use Rattle.runs.specs.declared.call.UnitReport.{UnitReport}
 use Rattle.runs.specs.declared.jitter.Figures.{Figures}
 use Rattle.runs.specs.declared.jitter.Start.{Start}
 use Rattle.runs.specs.declared.jitter.Track.{Track}
@@ -23,22 +25,13 @@ round_at l t = (t - l.offset) / l.period
 abbrev pub start_at : Line → ℕ → Start
 start_at l t = record { round = round_at l t; instant = t }
 
--- |a − b|
-abbrev pub distance : ℕ → ℕ → ℕ
-distance a b = (a - b) + (b - a)
-
 abbrev pub deviation : Line → Start → Start → ℕ
-deviation l a b = distance (b.instant - a.instant) l.period
+deviation l a b = abs_diff (b.instant - a.instant) l.period
 
--- Every two starts that follow each other bring a deviation, whatever rounds lie between them.
-abbrev deviations_after : Line → Start → List Start → List ℕ
-deviations_after l a [] = []
-deviations_after l a (b ∷ starts) = deviation l a b ∷ deviations_after l b starts
-
--- the starts stand the oldest first
+-- Every two starts that follow each other bring a deviation, whatever rounds lie between them; the
+-- starts stand the oldest first.
 abbrev pub deviations : Line → List Start → List ℕ
-deviations l [] = []
-deviations l (a ∷ starts) = deviations_after l a starts
+deviations l starts = map (λ p. deviation l p.0 p.1) (zip starts (drop 1 starts))
 
 abbrev pub largest_of : List ℕ → ℕ
 largest_of ds = fold (λ m d. max m d) 0 ds
@@ -57,7 +50,7 @@ abbrev pub no_tracks : List Line → List Track
 no_tracks ls = map (λ _. no_track) ls
 
 abbrev noted_after : Line → Option Start → Start → Track → Track
-noted_after l None b k = record { last = Some b; number = k.number; sum = k.sum; largest = k.largest }
+noted_after l None b k = record k { last = Some b }
 noted_after l (Some a) b k = record { last = Some b; number = k.number + 1; sum = k.sum + deviation l a b; largest = max k.largest (deviation l a b) }
 
 -- the last start and this one follow each other
@@ -67,8 +60,11 @@ noted l b k = noted_after l k.last b k
 abbrev pub track_figures : Line → Track → Figures
 track_figures l k = figures_for l k.number k.sum k.largest
 
--- A step at t that began a job adds a start to its line, which stands at place `line` - 1.
+-- A unit at t that began a job adds a start to its line, which stands at place `line` - 1.
+abbrev pub note_unit : ℕ → UnitReport → List Task → List Track → List Track
+note_unit t u xs ks =
+    let l : Line = (slice_index_or xs (u.line - 1) blank_task).line in
+    if u.began then slice_set ks (u.line - 1) (noted l (start_at l t) (slice_index_or ks (u.line - 1) no_track)) else ks
+
 abbrev pub note_start : ℕ → StepReport → List Task → List Track → List Track
-note_start t r xs ks = cond r.began
-    (let l : Line = (get_or xs (r.line - 1) blank_task).line in slice_set ks (r.line - 1) (noted l (start_at l t) (slice_index_or ks (r.line - 1) no_track)))
-    ks
+note_start t r xs ks = unwrap_or (option_map (λ u. note_unit t u xs ks) r.unit) ks

@@ -7,3 +7,4 @@ pub mod Rehearsals
 pub mod Starts
 pub mod Steps
 pub mod Tasks
+pub mod Printed

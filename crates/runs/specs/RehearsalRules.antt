@@ -2,12 +2,11 @@
 --   state_at                  all lines before the step at an instant, in the run from instant 0
 --   NoneStruckBelow           no job is struck out before an instant
 --   LowestStruck              a line has a job that is struck out, and no lower line has one
---   units_left                the units left on every line
 --   first_mark, second_mark   the instants at which the units left are looked at
 --   SameAtMarks               they are the same on every line
 --   Rehearsed                 the results that the rules permit
 --   OnlyRehearsed             the rules permit this result, and no other
-use Rattle.std.specs.Prelude.{◌≡◌, ℕ, zero, suc, ◌+◌, ◌<◌, ◌≤◌, Bool, true, false, List, map, length, Ok, Err, Result, slice_index_or}
+use Rattle.std.specs.Prelude.{◌≡◌, ℕ, zero, suc, ◌+◌, ◌<◌, ◌≤◌, Bool, true, false, List, length, Ok, Err, Result, slice_index_or}
 use Rattle.std.specs.List.{AllByRecursion}
 use Rattle.model.specs.declared.fault.Fault.{Fault}
 use Rattle.model.specs.declared.fault.Fault.TheVariants.{Overload, Missed, Unsettled}
@@ -16,7 +15,7 @@ use Rattle.model.specs.declared.line.Line.{Line}
 use Rattle.runs.specs.declared.task.Task.{Task}
 use Rattle.runs.specs.Tasks.{due, new_tasks}
 use Rattle.runs.specs.Steps.{stepped}
-use Rattle.runs.specs.Rehearsals.{load_of, last_offset}
+use Rattle.runs.specs.Rehearsals.{load_of, last_offset, units_left}
 
 abbrev pub state_at : (Job → Job → Bool) → List Line → ℕ → List Task
 state_at ahead ls zero = new_tasks 1 ls
@@ -29,9 +28,6 @@ NoneStruckBelow ahead ls n = (t : ℕ) → t < n → AllByRecursion (λ x. due t
 abbrev pub LowestStruck : ℕ → List Task → ℕ → Type 0
 LowestStruck t xs zero = ⊥
 LowestStruck t xs (suc i) = (i < length xs) × ((d : Task) → due t (slice_index_or xs i d) ≡ true) × ((k : ℕ) (d : Task) → k < i → due t (slice_index_or xs k d) ≡ false)
-
-abbrev pub units_left : List Task → List ℕ
-units_left xs = map (λ x. x.left) xs
 
 -- the marks are one and two hyperperiods h after the largest offset
 abbrev pub first_mark : ℕ → List Line → ℕ

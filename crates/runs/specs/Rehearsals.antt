@@ -3,10 +3,12 @@
 --   last_offset         the largest offset, 0 without lines
 --   miss_at             a step that strikes a job out misses the lowest such line
 --   run_units           some units from an instant on, up to the first job that is struck out
+--   units_left          the units left on every line
 --   same_left           the same units left on every line of two lists
 --   between_marks       run to the first mark and on to the second, and compare the units left
 --   rehearsal_of        what the rehearsal comes to
-use Rattle.std.specs.Prelude.{ℕ, zero, suc, ◌+◌, ◌*◌, ◌/◌, max, Bool, true, false, cond, ◌&&◌, List, [], ◌∷◌, Ok, Err, Result, ◌==◌, nat_lt}
+use Rattle.std.specs.Prelude.{ℕ, zero, suc, ◌+◌, ◌*◌, ◌/◌, max, Bool, if◌then◌else◌, List, map, fold, sum_by, Some, None, Ok, Err, Option, Result, nat_eq, nat_lt}
+use Rattle.std.specs.Cmp.Lexicographic.{pointwise}
 use Rattle.model.specs.declared.fault.Fault.{Fault}
 use Rattle.model.specs.declared.fault.Fault.TheVariants.{Overload, Missed, Unsettled}
 use Rattle.model.specs.declared.job.Job.{Job}
@@ -20,30 +22,33 @@ abbrev pub share_of : ℕ → Line → ℕ
 share_of h l = l.length * h / l.period
 
 abbrev pub load_of : ℕ → List Line → ℕ
-load_of h [] = 0
-load_of h (l ∷ ls) = share_of h l + load_of h ls
+load_of h ls = sum_by (share_of h) ls
 
 abbrev pub last_offset : List Line → ℕ
-last_offset [] = 0
-last_offset (l ∷ ls) = max l.offset (last_offset ls)
+last_offset ls = fold (λ m l. max m l.offset) 0 ls
+
+-- a line that is struck out at t is a miss
+abbrev pub miss_of : ℕ → Option ℕ → Result (Unit {0}) Fault
+miss_of t None = Ok tt
+miss_of t (Some line) = Err (Missed t line)
 
 abbrev pub miss_at : ℕ → List Task → Result (Unit {0}) Fault
-miss_at t xs = cond (lowest_due t xs == 0) (Ok tt) (Err (Missed t (lowest_due t xs)))
+miss_at t xs = miss_of t (lowest_due t xs)
 
 -- n units from instant t on
 abbrev pub run_units : (Job → Job → Bool) → ℕ → ℕ → List Task → Result (List Task) Fault
 run_units ahead zero t xs = Ok xs
-run_units ahead (suc n) t xs = cond (lowest_due t xs == 0) (run_units ahead n (suc t) (stepped ahead t xs)) (Err (Missed t (lowest_due t xs)))
+run_units ahead (suc n) t xs = and_then (miss_at t xs) (λ _. run_units ahead n (suc t) (stepped ahead t xs))
+
+abbrev pub units_left : List Task → List ℕ
+units_left xs = map (λ x. x.left) xs
 
 -- the same units left on every line
 abbrev pub same_left : List Task → List Task → Bool
-same_left [] [] = true
-same_left [] (y ∷ ys) = false
-same_left (x ∷ xs) [] = false
-same_left (x ∷ xs) (y ∷ ys) = x.left == y.left && same_left xs ys
+same_left xs ys = pointwise nat_eq (units_left xs) (units_left ys)
 
 abbrev pub settled : List Task → List Task → Result (Unit {0}) Fault
-settled first second = cond (same_left first second) (Ok tt) (Err Unsettled)
+settled first second = if same_left first second then Ok tt else Err Unsettled
 
 -- from instant 0 to the first mark, and the hyperperiod h on to the second
 abbrev pub between_marks : (Job → Job → Bool) → ℕ → ℕ → List Task → Result (Unit {0}) Fault
@@ -53,4 +58,4 @@ between_marks ahead mark h xs =
 
 -- The marks are one and two hyperperiods h after the largest offset.
 abbrev pub rehearsal_of : (Job → Job → Bool) → ℕ → List Line → Result (Unit {0}) Fault
-rehearsal_of ahead h ls = cond (nat_lt h (load_of h ls)) (Err Overload) (between_marks ahead (last_offset ls + h) h (new_tasks 1 ls))
+rehearsal_of ahead h ls = if nat_lt h (load_of h ls) then Err Overload else between_marks ahead (last_offset ls + h) h (new_tasks 1 ls)

@@ -1,34 +1,35 @@
 -- One unit of time: who gets it, and what all lines hold after it.
 --   first_of     the line whose pending job goes ahead of all other pending jobs
 --   stepped      all lines after the unit at an instant
---   lowest_due   the lowest line with a job that is struck out at an instant, or 0
+--   lowest_due   the lowest line with a job that is struck out at an instant
 --   report_of    what a step replies
+--   line_of      the line that had a step's unit, or 0
 --   Numbered     lines carry their numbers, counted from a number on
 --   WellFormed   at most 24 lines, numbered from 1, with periods, released before 10^12
 --   First        a line whose pending job goes ahead of every other pending job
 --   ToFirst      the unit goes to that line, or to none if no line is pending
-use Rattle.std.specs.Prelude.{◌≡◌, ℕ, zero, suc, ◌+◌, ◌^◌, ◌<◌, ◌≤◌, Bool, true, false, cond, ◌&&◌, List, [], ◌∷◌, map, length, Some, None, count_by, Option, ◌==◌, ◌≢◌, slice_index_or}
+use Rattle.std.specs.Prelude.{◌≡◌, ℕ, zero, suc, ◌+◌, ◌^◌, ◌<◌, ◌≤◌, Bool, true, false, ◌&&◌, if◌then◌else◌, List, [], ◌∷◌, map, length, fold, find, Some, None, count_by, Option, option_map, unwrap_or, ◌==◌, ◌≢◌, slice_index_or}
 use Rattle.std.specs.List.{AllByRecursion}
 use Rattle.model.specs.declared.job.Job.{Job}
 use Rattle.runs.specs.declared.task.Task.{Task}
 use Rattle.runs.specs.declared.call.StepReport.{StepReport}
+use Rattle.runs.specs.declared.call.UnitReport.{UnitReport}
 use Rattle.runs.specs.Tasks.{pending, due, arrived, job_of, served}
 
 -- the better of the best line so far and one more
 abbrev pub better : (Job → Job → Bool) → Option Task → Task → Option Task
-better ahead None x = cond (pending x) (Some x) None
-better ahead (Some b) x = cond (pending x && ahead (job_of x) (job_of b)) (Some x) (Some b)
+better ahead None x = if pending x then Some x else None
+better ahead (Some b) x = if pending x && ahead (job_of x) (job_of b) then Some x else Some b
 
 abbrev pub first_from : (Job → Job → Bool) → Option Task → List Task → Option Task
-first_from ahead best [] = best
-first_from ahead best (x ∷ xs) = first_from ahead (better ahead best x) xs
+first_from ahead best xs = fold (better ahead) best xs
 
 abbrev pub first_of : (Job → Job → Bool) → List Task → Option Task
 first_of ahead xs = first_from ahead None xs
 
+-- 0 where nobody gets the unit, as in the units of a history
 abbrev pub number_of : Option Task → ℕ
-number_of None = 0
-number_of (Some x) = x.number
+number_of o = unwrap_or (option_map (λ x. x.number) o) 0
 
 abbrev pub arrived_all : ℕ → List Task → List Task
 arrived_all t xs = map (arrived t) xs
@@ -37,17 +38,21 @@ arrived_all t xs = map (arrived t) xs
 abbrev pub stepped : (Job → Job → Bool) → ℕ → List Task → List Task
 stepped ahead t xs = map (served (number_of (first_of ahead (arrived_all t xs)))) (arrived_all t xs)
 
-abbrev pub lowest_due : ℕ → List Task → ℕ
-lowest_due t [] = 0
-lowest_due t (x ∷ xs) = cond (due t x) x.number (lowest_due t xs)
+abbrev pub lowest_due : ℕ → List Task → Option ℕ
+lowest_due t xs = option_map (λ x. x.number) (find (due t) xs)
 
 -- a job begins with its first unit and ends with its last
+abbrev pub unit_for : Task → UnitReport
+unit_for x = record { line = x.number; began = (x.left == x.line.length); ended = (x.left == 1) }
+
 abbrev pub report_for : Option Task → ℕ → StepReport
-report_for None n = record { line = 0; began = false; ended = false; struck = n }
-report_for (Some x) n = record { line = x.number; began = (x.left == x.line.length); ended = (x.left == 1); struck = n }
+report_for o n = record { unit = option_map unit_for o; struck = n }
 
 abbrev pub report_of : (Job → Job → Bool) → ℕ → List Task → StepReport
 report_of ahead t xs = report_for (first_of ahead (arrived_all t xs)) (count_by (due t) xs)
+
+abbrev pub line_of : StepReport → ℕ
+line_of r = unwrap_or (option_map (λ u. u.line) r.unit) 0
 
 abbrev pub Numbered : ℕ → List Task → Type 0
 Numbered n [] = Unit {0}

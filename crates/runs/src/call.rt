@@ -1,5 +1,8 @@
 //! What the firmware asks of an executive, and what it is told.
 
+ghost use Rattle.std.specs.Prelude.{◌≡◌};
+ghost use Rattle.runs.specs.Calls.{last_of};
+
 use model::fault::Fault;
 
 #[derive(Clone, Copy)]
@@ -10,22 +13,29 @@ pub enum Call {
     Resume { number: u64 },
 }
 
-// What a step replies: the line that had the unit, or 0; whether its job began and ended with it;
-// and how many jobs were struck out.
-#[derive(Clone, Copy)]
-pub struct StepReport {
+// Whose a unit was: the line, and whether its job began and ended with the unit.
+#[derive(Clone, Copy, Default)]
+pub struct UnitReport {
     pub line: u32,
     pub began: bool,
     pub ended: bool,
+}
+
+// What a step replies: whose the unit was, if it was anyone's, and how many jobs were struck out.
+#[derive(Clone, Copy)]
+pub struct StepReport {
+    pub unit: Option<UnitReport>,
     pub struck: u32,
 }
 
+// What an accepted call comes to.
 #[derive(Clone, Copy)]
-pub enum Reply {
-    Unit(StepReport),
+pub enum Accepted {
+    Step(StepReport),
     Done,
-    Refused(Fault),
 }
+
+pub type Reply = Result<Accepted, Fault>;
 
 // Where the last unit went: nowhere, to a job that is still pending, or to one that is over.
 #[derive(Clone, Copy)]
@@ -33,6 +43,19 @@ pub enum LastUnit {
     Idle,
     Running { line: u32 },
     Ended { line: u32 },
+}
+
+// Where the unit of a step went.
+impl From<StepReport> for LastUnit {
+    ghost from_gives = { λ report last. last ≡ last_of report };
+
+    fn from(report: StepReport) -> LastUnit {
+        match report.unit {
+            Some(unit) if unit.ended => LastUnit::Ended { line: unit.line },
+            Some(unit) => LastUnit::Running { line: unit.line },
+            None => LastUnit::Idle,
+        }
+    }
 }
 
 // What became of a line's jobs: those made are those ended, missed, set aside and pending.

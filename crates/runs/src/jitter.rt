@@ -9,7 +9,7 @@ pub struct Start {
 
 // What a line's starts came to so far: the last one, and the number, the sum and the largest of the
 // deviations.
-#[derive(Clone, Copy)]
+#[derive(Clone, Copy, Default)]
 pub struct Track {
     pub last: Option<Start>,
     pub number: u64,

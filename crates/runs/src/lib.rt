@@ -9,11 +9,10 @@ use model::ranking::Ranking;
 
 pub mod call;
 pub mod jitter;
+mod printed;
 pub mod task;
 
 // Of every lawful ranking, plan, start and list of calls.
-pub fn promise_stands<R: Ranking>(ranking: &R) -> u8
+pub fn promise_stands<R: Ranking>(ranking: &R)
     ensures { Promise (R.ahead ranking.now) }
-{
-    0
-}
+{}

@@ -1,6 +1,8 @@
--- The list holds of itself.
-use Rattle.cases.proofs.Bounds.{edges}
+-- Texts and buffers compute.
+use Rattle.std.proofs.Common.{rules}
+use Rattle.std.specs.Fmt.{digits}
 use Rattle.cases.proofs.edge_cases.Goals as goal
 
 pub returns : goal.returns
-returns c = edges
+unfolding digits
+returns c = search rules
