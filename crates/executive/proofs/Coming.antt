@@ -2,7 +2,8 @@
 use Rattle.std.proofs.Common.{◌≡◌, ℕ, ◌+◌, ◌-◌, ◌*◌, ◌/◌, ◌%◌, ◌<◌, ◌≤◌, true, false, cond, eqb, leb, sym, ap, ◌∙◌, subst, ⊎_elim, mod-lt, mul_comm, add-mul, arith}
 use native.Mathlib.Nat.{div-add-mod, mul-mod_left}
 use Rattle.std.proofs.lemmas.Nat.{mul-le}
-use Rattle.std.proofs.lemmas.Bool.{and_from, and_parts, both_ways, cases_Bool, cases_lt, cond_both, eqb-true, eqb-false, eq-eqb, ne_eqb, leb-true, leb-false, le-leb}
+use Rattle.std.proofs.lemmas.Bool.{and_from, and_parts, cases_lt, cond_both, eqb-true, eq-eqb, leb-true, leb-false, le-leb}
+use Rattle.std.proofs.lemmas.Bool.Decides.{nat_tests}
 use Rattle.model.specs.declared.line.Line.{Line}
 use Rattle.runs.specs.Tasks.{releases_at}
 use Rattle.executive.specs.Slots.{coming_at, IsComing}
@@ -73,10 +74,7 @@ module _ (l : Line) (some : 0 < l.period) where
   pub released_now : (t : ℕ) → releases_at l t ≡ eqb (coming_at l t) t
   released_now t =
       let coming = coming_is t in
-      ⊎_elim
-      (λ (e : releases_at l t ≡ true). e ∙ sym (eq-eqb _ _ (omega (arith, coming.from, coming.least t (omega arith) e))))
-      (λ (e : releases_at l t ≡ false). e ∙ sym (ne_eqb _ _ (λ same. both_ways (releases_at l t) e (subst (λ n. releases_at l n ≡ true) same coming.released))))
-      (cases_Bool (releases_at l t))
+      grind (arith, nat_tests, coming.from, coming.released, coming.least t)
 
   moves : (t : ℕ) → releases_at l t ≡ true → IsComing l (t + 1) (coming_at l t + l.period)
   moves t e =
@@ -92,11 +90,7 @@ module _ (l : Line) (some : 0 < l.period) where
   stays : (t : ℕ) → releases_at l t ≡ false → IsComing l (t + 1) (coming_at l t)
   stays t e =
       let coming = coming_is t in
-      record {
-        from = omega (arith, coming.from, eqb-false _ _ (sym (released_now t) ∙ e));
-        released = coming.released;
-        least = λ u p q. coming.least u (omega arith) q;
-      }
+      record { from = grind (arith, nat_tests, coming.from, released_now t); released = coming.released; least = λ u p q. coming.least u (omega arith) q }
 
   -- one instant on, the next release is a period further if there was one, and else the same
   pub coming_next : (t : ℕ) → coming_at l (t + 1) ≡ cond (releases_at l t) (coming_at l t + l.period) (coming_at l t)

@@ -1,72 +1,84 @@
 -- The tracks of a plan's lines: what bounds their figures, and one start more.
-use Rattle.std.proofs.Common.{◌≡◌, ℕ, ◌+◌, ◌-◌, ◌^◌, ◌<◌, ◌≤◌, true, false, List, length, get_or, set, Some, None, Option, sym, ap, ◌∙◌, subst, ⊎_elim, add-mul, arith}
-use Rattle.std.proofs.lemmas.Nat.{mul-le}
-use Rattle.std.proofs.lemmas.List.{get_or-map, get_or-set_same, get_or-set_other, length-map, length-set}
-use Rattle.std.proofs.lemmas.Bool.{cases_eq, cond-true, cond-false}
-use Rattle.model.specs.Ranges.{blank}
+use Rattle.std.proofs.Common.{◌≡◌, ℕ, ◌+◌, ◌-◌, ◌<◌, ◌≤◌, true, List, length, get_or, set, Some, None, Option, sym, refl, ap, ◌∙◌, subst, add-mul, arith}
+use Rattle.std.proofs.Math.ListN as ListN
+use Rattle.std.proofs.lemmas.Bool.{cond-true}
+use Rattle.std.proofs.lemmas.Bool.Decides.{nat_tests}
+use Rattle.std.proofs.lemmas.Grind.{common_steps}
 use Rattle.model.specs.declared.line.Line.{Line}
 use Rattle.runs.specs.declared.call.StepReport.{StepReport}
+use Rattle.runs.specs.declared.task.Task.{Task}
+use Rattle.runs.specs.declared.call.UnitReport.{UnitReport}
 use Rattle.runs.specs.declared.jitter.Start.{Start}
 use Rattle.runs.specs.declared.jitter.Track.{Track}
-use Rattle.runs.specs.declared.task.Task.{Task}
-use Rattle.runs.specs.Jitter.{no_track, noted, note_start, start_at}
+use Rattle.executive.specs.declared.slot.Slot.{Slot}
+use Rattle.executive.specs.declared.slots.Slots.{Slots}
+use Rattle.runs.specs.Jitter.{noted, note_start, note_unit, start_at}
 use Rattle.runs.specs.Tasks.{blank_task}
-use Rattle.executive.specs.Executives.{lines_of, Tracked, TrackedFrom, AllTracked}
+use Rattle.executive.specs.Executives.{lines_of}
+use Rattle.executive.specs.Slots.{AllKept, AllTracked, Kept, Tracked, tasks_of, tracks_of}
+use Rattle.executive.proofs.Arriving.{tracked_kept}
+use Rattle.executive.proofs.Places.{slot_at, written, length_written, all_written, written_kept, same_tasks, written_tracks, task_at, track_at}
 
-module _ (t : ℕ) (l : Line) where
-  bounded_from : (o : Option Start) (k : Track) → t ≤ 10 ^ 12 → l.period ≤ 60000 → TrackedFrom t l o k → (k.number ≤ 10 ^ 12) × (k.sum ≤ 10 ^ 17)
-  bounded_from None k early short is = (omega (arith, is.0), omega (arith, is.1))
-  bounded_from (Some a) k early short is = (omega (arith, is.0, is.1), omega (arith, is.0, is.1, is.2, mul-le k.number l.period (10 ^ 12) 60000 (omega (arith, is.0, is.1)) short))
+later : (t : ℕ) (l : Line) (k : Track) → Tracked t l k → Tracked (t + 1) l k
+later t l k is = grind arith
 
-  -- the figures that go into sums and products
-  pub bounded : (k : Track) → t ≤ 10 ^ 12 → l.period ≤ 60000 → Tracked t l k → (k.number ≤ 10 ^ 12) × (k.sum ≤ 10 ^ 17)
-  bounded k = bounded_from k.last k
+-- one start more, in a unit after the last one
+noted_tracked : (l : Line) (b : Start) (k : Track) → Tracked b.instant l k → Tracked (b.instant + 1) l (noted l b k)
+noted_tracked l b k is = by k.last refl
+  where
+    by : (o : Option Start) → k.last ≡ o → Tracked (b.instant + 1) l (noted l b k)
+    by None e = grind (arith, is.0 e)
+    by (Some a) e = grind (arith, is.1 a e, add-mul k.number 1 l.period)
 
-  later_from : (o : Option Start) (k : Track) → TrackedFrom t l o k → TrackedFrom (t + 1) l o k
-  later_from None k is = is
-  later_from (Some a) k is = (omega (arith, is.0), is.1, is.2, is.3)
+-- a start of line `unit.line` at t, written through the slice that the vector lends
+module _ (s : Slots) (t : ℕ) (tracked : AllTracked t s.list.items) (ws : List Slot) (lent : ws ≡ s.list.items) (unit : UnitReport) (here : (0 < unit.line) × (unit.line ≤ length s.list.items)) (k : Track)
+    (is : k ≡ noted (slot_at ws (unit.line - 1)).task.line (start_at (slot_at ws (unit.line - 1)).task.line t) (slot_at ws (unit.line - 1)).track) where
+  abbrev xs : List Slot
+  xs = s.list.items
 
-  -- the start before this one lies behind
-  pub behind : (k : Track) (a : Start) → Some a ≡ k.last → Tracked t l k → a.instant < t
-  behind k a e is = (subst (λ o. TrackedFrom t l o k) (sym e) is).0
+  abbrev i : ℕ
+  i = unit.line - 1
 
-module _ (l : Line) (b : Start) where
-  noted_from_lem : (o : Option Start) (number total largest : ℕ) → let k : Track = record { last = o; number = number; sum = total; largest = largest } in Tracked b.instant l k → Tracked (b.instant + 1) l (noted l b k)
-  noted_from_lem None number total largest is = (omega arith, omega (arith, is.0), omega (arith, is.1), omega (arith, is.2))
-  noted_from_lem (Some a) number total largest is =
-      (omega arith, omega (arith, is.0, is.1), omega (arith, is.0, is.2, add-mul number 1 l.period), omega (arith, is.3))
+  abbrev x : Slot
+  x = slot_at xs i
 
-  -- one start more, in a unit after the last one
-  pub noted_tracked : (k : Track) → Tracked b.instant l k → Tracked (b.instant + 1) l (noted l b k)
-  noted_tracked k = noted_from_lem k.last k.number k.sum k.largest
+  abbrev y : Slot
+  y = let w : Slot = slot_at ws i in record { task = w.task; next = w.next; track = k }
 
--- a line under way is the plan's
-pub line_at : (xs : List Task) (ls : List Line) (i : ℕ) → lines_of xs ≡ ls → i < length ls → (get_or xs i blank_task).line ≡ get_or ls i blank
-line_at xs ls i e h = sym (get_or-map (λ x. x.line) xs i blank_task blank (omega (arith, ap length e, length-map xs (λ x. x.line)))) ∙ ap (λ w. get_or w i blank) e
+  abbrev ys : List Slot
+  ys = written xs ws lent unit.line here.0 here.1 y
 
-module _ (t : ℕ) (ls : List Line) (ks : List Track) (all : AllTracked t ls ks) where
-  -- no start is added
-  pub none_noted : (r : StepReport) → r.began ≡ false → ((xs : List Task) → lines_of xs ≡ ls → ks ≡ note_start t r xs ks) × AllTracked (t + 1) ls ks
-  none_noted r e = (λ xs _. sym (cond-false r.began _ ks e), (all.0, λ i h. later_from t (get_or ls i blank) (get_or ks i no_track).last (get_or ks i no_track) (all.1 i h)))
+  in' : i < length xs
+  in' = omega (arith, here.0, here.1)
 
-  -- a start is added to the line that the step reports
-  module _ (r : StepReport) (began : r.began ≡ true) (some : 0 < r.line) (within : r.line ≤ length ls) (k : Track) (is : k ≡ noted (get_or ls (r.line - 1) blank) (start_at (get_or ls (r.line - 1) blank) t) (get_or ks (r.line - 1) no_track)) where
-    abbrev i : ℕ
-    i = r.line - 1
+  old : slot_at ws i ≡ x
+  old = ap (λ zs. slot_at zs i) lent
 
-    in' : i < length ls
-    in' = omega arith
+  track : k ≡ noted x.task.line (start_at x.task.line t) x.track
+  track = is ∙ ap (λ z. noted z.task.line (start_at z.task.line t) z.track) old
 
-    pub one_noted : (xs : List Task) → lines_of xs ≡ ls → set ks i k ≡ note_start t r xs ks
-    one_noted xs e =
-        ap (set ks i) (is ∙ ap (λ l. noted l (start_at l t) (get_or ks i no_track)) (sym (line_at xs ls i e in'))) ∙ sym (cond-true r.began _ ks began)
+  pub few_noted : length ys ≤ 24
+  few_noted = omega (arith, length_written xs ws lent unit.line here.0 here.1 y, s.few)
 
-    pub one_tracked : AllTracked (t + 1) ls (set ks i k)
-    one_tracked = (
-      length-set ks i k ∙ all.0,
-      λ j h. ⊎_elim
-          (λ (same : j ≡ i). subst (λ m. Tracked (t + 1) (get_or ls m blank) (get_or (set ks i k) m no_track)) (sym same)
-          (subst (Tracked (t + 1) (get_or ls i blank)) (sym is ∙ sym (get_or-set_same ks i k no_track (omega (arith, all.0)))) (noted_tracked (get_or ls i blank) (start_at (get_or ls i blank) t) (get_or ks i no_track) (all.1 i in'))))
-          (λ (other : j ≡ i → ⊥). subst (Tracked (t + 1) (get_or ls j blank)) (sym (get_or-set_other ks i j k no_track other)) (later_from t (get_or ls j blank) (get_or ks j no_track).last (get_or ks j no_track) (all.1 j h)))
-          (cases_eq j i),
-    )
+  pub kept_noted : AllKept s.clock ys
+  kept_noted =
+      written_kept xs ws lent unit.line here.0 here.1 y s.clock s.kept (ap (λ z. z.task.number) old)
+      (subst (λ z. Kept s.clock (record { task = z.task; next = z.next; track = k })) (sym old) (tracked_kept s.clock x k (s.kept i in').1))
+
+  pub tasks_noted : tasks_of ys ≡ tasks_of xs
+  tasks_noted = same_tasks xs ws lent unit.line here.0 here.1 y (ap (λ z. z.task) old)
+
+  pub tracks_noted : unit.began ≡ true → tracks_of ys ≡ note_unit t unit (tasks_of xs) (tracks_of xs)
+  tracks_noted began =
+      written_tracks xs ws lent unit.line here.0 here.1 y
+      ∙ ap (set (tracks_of xs) i) (track ∙ ap (λ z. noted z.line (start_at z.line t) x.track) (sym (task_at xs i)) ∙ ap (λ q. let l : Line = (get_or (tasks_of xs) i blank_task).line in noted l (start_at l t) q) (sym (track_at xs i)))
+      ∙ sym (cond-true unit.began _ (tracks_of xs) began)
+
+  pub tracked_noted : AllTracked (t + 1) ys
+  tracked_noted = all_written xs ws lent unit.line here.0 here.1 y (λ j z. Tracked (t + 1) z.task.line z.track)
+      (subst (λ q. Tracked (t + 1) (slot_at ws i).task.line q) (sym is) (noted_tracked (slot_at ws i).task.line (start_at (slot_at ws i).task.line t) (slot_at ws i).track (subst (λ z. Tracked t z.task.line z.track) (sym old) (tracked i in'))))
+      (λ j p _. later t (slot_at xs j).task.line (slot_at xs j).track (tracked j p))
+
+-- a start is noted by the plan's lines alone
+pub note_same : (t : ℕ) (r : StepReport) (xs ys : List Task) (ks : List Track) → lines_of xs ≡ lines_of ys → note_start t r xs ks ≡ note_start t r ys ks
+note_same t r xs ys ks same = grind (arith, nat_tests, common_steps, ListN.get_or-map (λ (z : Task). z.line))

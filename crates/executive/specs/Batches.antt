@@ -1,11 +1,12 @@
 -- Lists of calls that an executive takes one after another.
 --   events_of   calls with their replies, as a history
 --   TookEach    the calls of a list were taken as the rules say
-use Rattle.std.specs.Prelude.{◌≡◌, ℕ, Bool, List, [], ◌∷◌, ◌++◌, vec_items}
+use Rattle.std.specs.Prelude.{◌≡◌, ℕ, Bool, List, [], ◌∷◌, ◌++◌}
 use Rattle.model.specs.declared.job.Job.{Job}
 use Rattle.planning.specs.Hyperperiods.{hyperperiod}
+use Rattle.planning.specs.Places.{plan_set}
 use Rattle.runs.specs.declared.call.Call.{Call}
-use Rattle.runs.specs.declared.call.Reply.{Reply}
+use Rattle.runs.specs.Calls.{Reply}
 use Rattle.runs.specs.Histories.{History, RanFrom, Ran, event}
 use Rattle.runs.specs.Promise.{Promised}
 use Rattle.model.specs.declared.ranking.Ranking.{Ghosts}
@@ -24,7 +25,7 @@ pub record TookEach {X : Type 0} {B : Ghosts X} (ahead : Job → Job → Bool) (
   pub exact : RanFrom ahead (view_of before) events (view_of after)
   pub plan : after.plan ≡ before.plan
   pub ranking : after.ranking ≡ before.ranking
-  pub history : (start : ℕ) (h : History) → Ran ahead (vec_items before.plan.lines) start h (view_of before)
-      → Ran ahead (vec_items after.plan.lines) start (h ++ events) (view_of after)
-  pub promised : (start : ℕ) (h : History) → Ran ahead (vec_items before.plan.lines) start h (view_of before)
-      → Promised ahead (vec_items after.plan.lines) (hyperperiod (vec_items after.plan.lines)) start (h ++ events) (view_of after)
+  pub history : (start : ℕ) (h : History) → Ran ahead (plan_set before.plan).lines start h (view_of before)
+      → Ran ahead (plan_set after.plan).lines start (h ++ events) (view_of after)
+  pub promised : (start : ℕ) (h : History) → Ran ahead (plan_set before.plan).lines start h (view_of before)
+      → Promised ahead (plan_set after.plan).lines (hyperperiod (plan_set after.plan).lines) start (h ++ events) (view_of after)

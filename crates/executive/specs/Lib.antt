@@ -4,3 +4,4 @@ pub mod Executives
 pub mod Questions
 pub mod Slots
 pub mod Views
+pub mod Printed

@@ -4,9 +4,11 @@
 
 mod between;
 pub mod executive;
+mod printed;
 pub mod questions;
 pub mod rehearsal;
-pub mod slot;
+mod slot;
+mod slots;
 mod step;
 mod task;
 mod tracks;

@@ -3,14 +3,15 @@
 
 ghost use Rattle.std.specs.Prelude.{◌≡◌, ◌+◌, ◌*◌, ◌^◌, ◌<◌, ◌≤◌, length, Ok, OnOk};
 ghost use Rattle.planning.specs.Hyperperiods.{hyperperiod};
+ghost use Rattle.planning.specs.Places.{plan_set};
 ghost use Rattle.model.specs.Ranges.{Ranged, AllRanged};
-ghost use Rattle.executive.specs.Slots.{tasks_of, AllKept};
+ghost use Rattle.executive.specs.Slots.{tasks_of};
 ghost use Rattle.runs.specs.Steps.{stepped};
 ghost use Rattle.runs.specs.RehearsalRules.{OnlyRehearsed};
-ghost use Rattle.runs.specs.Rehearsals.{share_of, load_of, last_offset, miss_at, run_units, same_left, and_then, between_marks as between_marks_of, rehearsal_of};
+ghost use Rattle.runs.specs.Rehearsals.{share_of, load_of, last_offset, miss_at, run_units, units_left, and_then, between_marks as between_marks_of, rehearsal_of};
 
-use crate::slot::{NO_SLOT, Slot, set_up};
-use crate::step::step;
+use crate::slots::Slots;
+use arrayvec::ArrayVec;
 use model::fault::Fault;
 use model::line::Line;
 use model::ranking::Ranking;
@@ -25,6 +26,7 @@ fn share(line: &Line, h: u32) -> u64
     line.length as u64 * h as u64 / line.period as u64
 }
 
+// Added up line by line in a `for`, the form that is fixed for this sum.
 fn load(lines: &[Line], h: u32) -> u64
     requires { (AllRanged lines.now) × ((h ≤ 1000000) × (length lines.now ≤ 24)) }
     ensures { result ≡ load_of h lines.now }
@@ -39,97 +41,72 @@ fn load(lines: &[Line], h: u32) -> u64
 fn last_offset(lines: &[Line]) -> u32
     ensures { result ≡ last_offset lines.now }
 {
-    let mut largest: u32 = 0;
-    for line in lines {
-        largest = largest.max(line.offset);
-    }
-    largest
+    lines.iter().map(|line| line.offset).max().unwrap_or(0)
 }
 
-// The unit at `t`; a job that it strikes out is a miss.
-fn step_unmissed<R: Ranking>(slots: &mut [Slot], ranking: &R, t: u64) -> Result<(), Fault>
-    requires { (AllKept t slots.old) × ((length slots.old ≤ 24) × (t < 10 ^ 12)) }
-    ensures value { result ≡ miss_at t (tasks_of slots.old) }
-    ensures tasks { tasks_of slots.new ≡ stepped (R.ahead ranking.now) t (tasks_of slots.old) }
-    ensures kept { AllKept (t + 1) slots.new }
+// The unit at the clock; a job that it strikes out is a miss.
+fn step_unmissed<R: Ranking>(slots: &mut Slots, ranking: &R) -> Result<(), Fault>
+    requires { slots.old.clock < 10 ^ 12 }
+    ensures value { result ≡ miss_at slots.old.clock (tasks_of slots.old.list.items) }
+    ensures tasks { tasks_of slots.new.list.items ≡ stepped (R.ahead ranking.now) slots.old.clock (tasks_of slots.old.list.items) }
+    ensures clock { slots.new.clock ≡ slots.old.clock + 1 }
 {
-    let lowest = step(slots, ranking, t).lowest;
-    if lowest == 0 {
-        return Ok(());
+    let instant = slots.clock();
+    match slots.step(ranking).lowest {
+        Some(line) => Err(Fault::Missed { instant, line }),
+        None => Ok(()),
     }
-    Err(Fault::Missed {
-        instant: t,
-        line: lowest,
-    })
 }
 
-// Steps from instant `from` on, up to the first step that strikes a job out.
-fn run<R: Ranking>(slots: &mut [Slot], ranking: &R, from: u64, units: u64) -> Result<(), Fault>
-    requires { (AllKept from slots.old) × ((length slots.old ≤ 24) × (from + units ≤ 10 ^ 12)) }
-    ensures reached { and_then result (λ _. Ok (tasks_of slots.new)) ≡ run_units (R.ahead ranking.now) units from (tasks_of slots.old) }
-    ensures kept { OnOk result (AllKept (from + units) slots.new) }
+// As many steps as `units`, up to the first that strikes a job out.
+fn run<R: Ranking>(slots: &mut Slots, ranking: &R, units: u64) -> Result<(), Fault>
+    requires { slots.old.clock + units ≤ 10 ^ 12 }
+    ensures reached { and_then result (λ _. Ok (tasks_of slots.new.list.items)) ≡ run_units (R.ahead ranking.now) units slots.old.clock (tasks_of slots.old.list.items) }
+    ensures clock { OnOk result (slots.new.clock ≡ slots.old.clock + units) }
 {
-    for t in from..from + units {
-        step_unmissed(slots, ranking, t)?;
+    for _ in 0..units {
+        step_unmissed(slots, ranking)?;
     }
     Ok(())
 }
 
-// Whether every line has the same units left in both.
-fn same_left(first: &[Slot], second: &[Slot]) -> bool
-    requires { length first.now ≡ length second.now }
-    ensures { result ≡ same_left (tasks_of first.now) (tasks_of second.now) }
+// The units that the pending jobs have still to run, line by line. A loop: `collect` into an `ArrayVec` gives a
+// `Result`, though there is always room.
+fn units_left(slots: &Slots) -> ArrayVec<u32, 24>
+    ensures { result.items ≡ units_left (tasks_of slots.now.list.items) }
 {
-    for i in 0..first.len() {
-        if first[i].task.left != second[i].task.left {
-            return false;
-        }
+    let mut left = ArrayVec::new();
+    for slot in slots.list.as_slice() {
+        left.push(slot.task.left);
     }
-    true
+    left
 }
 
-// To the first mark, on to the second, and the units left compared; `saved` keeps those at the first.
-fn between_marks<R: Ranking>(
-    slots: &mut [Slot],
-    saved: &mut [Slot],
-    ranking: &R,
-    mark: u64,
-    h: u64,
-) -> Result<(), Fault>
-    requires { (AllKept 0 slots.old) × ((length slots.old ≤ 24) × ((length saved.old ≡ length slots.old) × (mark + h ≤ 10 ^ 12))) }
-    ensures { result ≡ between_marks_of (R.ahead ranking.now) mark h (tasks_of slots.old) }
+// To the first mark, on to the second, and the units left compared.
+fn between_marks<R: Ranking>(slots: &mut Slots, ranking: &R, mark: u64, h: u64) -> Result<(), Fault>
+    requires { (slots.old.clock ≡ 0) × (mark + h ≤ 10 ^ 12) }
+    ensures { result ≡ between_marks_of (R.ahead ranking.now) mark h (tasks_of slots.old.list.items) }
 {
-    run(slots, ranking, 0, mark)?;
-    saved.copy_from_slice(slots);
-    run(slots, ranking, mark, h)?;
-    if same_left(saved, slots) {
+    run(slots, ranking, mark)?;
+    let first = units_left(slots);
+    run(slots, ranking, h)?;
+    if units_left(slots) == first {
         Ok(())
     } else {
         Err(Fault::Unsettled)
     }
 }
 
-pub(crate) fn rehearse_lines<R: Ranking>(lines: &[Line], ranking: &R, h: u32) -> Result<(), Fault>
-    requires { (AllRanged lines.now) × ((length lines.now ≤ 24) × (h ≤ 1000000)) }
-    ensures value { result ≡ rehearsal_of (R.ahead ranking.now) h lines.now }
-    ensures rules { OnlyRehearsed (R.ahead ranking.now) h lines.now result }
+// Rehearses a plan under any lawful ranking; neither is altered.
+pub fn rehearse<R: Ranking>(plan: &Plan, ranking: &R) -> Result<(), Fault>
+    ensures value { result ≡ rehearsal_of (R.ahead ranking.now) (hyperperiod (plan_set plan.now).lines) (plan_set plan.now).lines }
+    ensures only { OnlyRehearsed (R.ahead ranking.now) (hyperperiod (plan_set plan.now).lines) (plan_set plan.now).lines result }
 {
+    let lines = plan.lines();
+    let h = plan.hyperperiod();
     if load(lines, h) > h as u64 {
         return Err(Fault::Overload);
     }
-    let n = lines.len();
-    let mut slots = [NO_SLOT; 24];
-    let mut saved = slots;
-    let slots = &mut slots[..n];
-    set_up(slots, lines, 0);
     let mark = last_offset(lines) as u64 + h as u64;
-    between_marks(slots, &mut saved[..n], ranking, mark, h as u64)
-}
-
-// Rehearses a plan under any lawful ranking; neither is altered.
-pub fn rehearse<R: Ranking>(plan: &Plan, ranking: &R) -> Result<(), Fault>
-    ensures value { result ≡ rehearsal_of (R.ahead ranking.now) (hyperperiod plan.now.lines.items) plan.now.lines.items }
-    ensures only { OnlyRehearsed (R.ahead ranking.now) (hyperperiod plan.now.lines.items) plan.now.lines.items result }
-{
-    rehearse_lines(plan.lines(), ranking, plan.hyperperiod())
+    between_marks(&mut Slots::new(lines, 0), ranking, mark, h as u64)
 }

@@ -1,56 +1,53 @@
 //! One unit of time: what is due is struck out, what is released arrives, and the pending job that
 //! the ranking puts first gets the unit.
 
-ghost use Rattle.std.specs.Prelude.{◌≡◌, ◌+◌, ◌^◌, ◌<◌, ◌≤◌, Bool, true, ◌&&◌, length, drop, if◌then◌else◌, Some, None, count_by, nat_eq, slice_index_or};
-ghost use Rattle.model.specs.declared.job.Job.{Job};
-ghost use Rattle.runs.specs.Tasks.{due, given, job_of, pending};
-ghost use Rattle.executive.specs.Slots.{tasks_of, blank_slot, task_at, Within, AllKept};
-ghost use Rattle.runs.specs.Steps.{first_from, first_of, arrived_all, stepped as stepped_all, lowest_due, report_for, report_of, ToFirst};
+ghost use Rattle.std.specs.Prelude.{◌≡◌, ◌+◌, ◌-◌, ◌^◌, ◌<◌, ◌≤◌, true, length, map, Some, count_by, slice_index_or};
+ghost use Rattle.std.specs.List.{filter, reduce};
+ghost use Rattle.std.specs.Option.{option_map, option_copied, option_or};
+ghost use Rattle.runs.specs.Calls.{on_line};
+ghost use Rattle.runs.specs.Tasks.{due, given, pending, served};
+ghost use Rattle.runs.specs.Steps.{first_of, arrived_all, line_of, lowest_due, number_of, report_of, stepped as stepped_all, unit_for, ToFirst};
+ghost use Rattle.executive.specs.Slots.{tasks_of, tracks_of, blank_slot, arrived_slot, first_of_two, AllKept};
 
 use crate::slot::Slot;
-use crate::task::{give, is_pending, job};
+use crate::slots::Slots;
+use crate::task::{give, is_pending};
+use model::job::Job;
 use model::ranking::Ranking;
-use runs::call::StepReport;
+use runs::call::{StepReport, UnitReport};
 use runs::task::Task;
 
-// How many jobs were struck out at an instant, and the lowest line of them, or 0.
-#[derive(Clone, Copy)]
-pub(crate) struct Struck {
-    pub(crate) count: u32,
-    pub(crate) lowest: u32,
+// How many jobs were struck out at an instant, and the lowest line of them.
+#[derive(Clone, Copy, Default)]
+struct Struck {
+    count: u32,
+    lowest: Option<u32>,
 }
 
 #[derive(Clone, Copy)]
 pub(crate) struct Stepped {
     pub(crate) report: StepReport,
-    pub(crate) lowest: u32,
+    pub(crate) lowest: Option<u32>,
 }
 
 impl Struck {
     // One more, of a line above those so far.
     fn add(&mut self, line: u32)
         requires { self.old.count < 24 }
-        ensures count { self.new.count ≡ self.old.count + 1 }
-        ensures lowest { self.new.lowest ≡ (if nat_eq self.old.count 0 then line else self.old.lowest) }
+        ensures { self.new ≡ record { count = self.old.count + 1; lowest = option_or self.old.lowest (Some line) } }
     {
-        if self.count == 0 {
-            self.lowest = line;
-        }
         self.count += 1;
+        self.lowest = self.lowest.or(Some(line));
     }
 }
 
-pub(crate) fn arrive_all(slots: &mut [Slot], t: u64) -> Struck
+fn arrive_each(slots: &mut [Slot], t: u64) -> Struck
     requires { (AllKept t slots.old) × ((length slots.old ≤ 24) × (t < 10 ^ 12)) }
-    ensures tasks { tasks_of slots.new ≡ arrived_all t (tasks_of slots.old) }
-    ensures kept { AllKept (t + 1) slots.new }
+    ensures slots { slots.new ≡ map (arrived_slot t) slots.old }
     ensures count { result.count ≡ count_by (due t) (tasks_of slots.old) }
     ensures lowest { result.lowest ≡ lowest_due t (tasks_of slots.old) }
 {
-    let mut struck = Struck {
-        count: 0,
-        lowest: 0,
-    };
+    let mut struck = Struck::default();
     for slot in slots.iter_mut() {
         if slot.arrive(t) {
             struck.add(slot.task.number);
@@ -59,83 +56,92 @@ pub(crate) fn arrive_all(slots: &mut [Slot], t: u64) -> Struck
     struck
 }
 
-// The first place with a pending job, or the length: no line before it matters to any ranking.
-fn first_pending(slots: &[Slot]) -> usize
-    ensures within { result ≤ length slots.now }
-    ensures found { result < length slots.now → pending (slice_index_or slots.now result blank_slot).task ≡ true }
-    ensures before { (ahead : Job → Job → Bool) → first_from ahead None (drop result (tasks_of slots.now)) ≡ first_of ahead (tasks_of slots.now) }
+// The slot whose pending job goes first.
+fn first<'a, R: Ranking>(slots: &'a [Slot], ranking: &R) -> Option<&'a Slot>
+    ensures { option_copied result ≡ reduce (first_of_two (R.ahead ranking.now)) (filter (λ x. pending x.task) slots.now) }
 {
-    for i in 0..slots.len() {
-        if is_pending(&slots[i].task) {
-            return i;
-        }
-    }
-    slots.len()
+    slots
+        .iter()
+        .filter(|slot| is_pending(&slot.task))
+        .reduce(|best, slot| {
+            if ranking.goes_ahead(&Job::from(slot), &Job::from(best)) {
+                slot
+            } else {
+                best
+            }
+        })
 }
 
-// The job at place i is pending and goes ahead of that at place `best`.
-fn overtakes<R: Ranking>(slots: &[Slot], ranking: &R, i: usize, best: usize) -> bool
-    requires { (i < length slots.now) × (best < length slots.now) }
-    ensures { result ≡ (pending (slice_index_or slots.now i blank_slot).task && R.ahead ranking.now (job_of (slice_index_or slots.now i blank_slot).task) (job_of (slice_index_or slots.now best blank_slot).task)) }
-{
-    is_pending(&slots[i].task) && ranking.goes_ahead(&job(&slots[i].task), &job(&slots[best].task))
-}
-
-// The place of the pending job that goes first.
-pub(crate) fn first<R: Ranking>(slots: &[Slot], ranking: &R) -> Option<usize>
-    ensures value { task_at slots.now result ≡ first_of (R.ahead ranking.now) (tasks_of slots.now) }
-    ensures within { Within slots.now result }
-{
-    let start = first_pending(slots);
-    if start == slots.len() {
-        return None;
-    }
-    let mut best = start;
-    for i in start + 1..slots.len() {
-        if overtakes(slots, ranking, i, best) {
-            best = i;
-        }
-    }
-    Some(best)
-}
-
-// The unit goes to a pending task; `struck` is how many jobs the same step struck out.
-fn give_unit(task: &mut Task, struck: u32) -> StepReport
+// The unit goes to a pending job.
+fn give_unit(task: &mut Task) -> UnitReport
     requires { (0 < task.old.left) × (task.old.counts.ended ≤ 10 ^ 12) }
     ensures task { task.new ≡ given task.old }
-    ensures report { result ≡ report_for (Some task.old) struck }
+    ensures report { result ≡ unit_for task.old }
 {
-    let report = StepReport {
+    let report = UnitReport {
         line: task.number,
         began: task.left == task.line.length,
         ended: task.left == 1,
-        struck,
     };
     give(task);
     report
 }
 
-// The unit at instant `t`.
-pub(crate) fn step<R: Ranking>(slots: &mut [Slot], ranking: &R, t: u64) -> Stepped
-    requires { (AllKept t slots.old) × ((length slots.old ≤ 24) × (t < 10 ^ 12)) }
-    ensures tasks { tasks_of slots.new ≡ stepped_all (R.ahead ranking.now) t (tasks_of slots.old) }
-    ensures kept { AllKept (t + 1) slots.new }
-    ensures report { result.report ≡ report_of (R.ahead ranking.now) t (tasks_of slots.old) }
-    ensures lowest { result.lowest ≡ lowest_due t (tasks_of slots.old) }
-    ensures first { ToFirst (R.ahead ranking.now) (arrived_all t (tasks_of slots.old)) result.report.line }
-{
-    let struck = arrive_all(slots, t);
-    let report = match first(slots, ranking) {
-        Some(i) => give_unit(&mut slots[i].task, struck.count),
-        None => StepReport {
-            line: 0,
-            began: false,
-            ended: false,
-            struck: struck.count,
-        },
-    };
-    Stepped {
-        report,
-        lowest: struck.lowest,
+impl Slots {
+    fn arrive_all(&mut self) -> Struck
+        requires { self.old.clock < 10 ^ 12 }
+        ensures clock { self.new.clock ≡ self.old.clock + 1 }
+        ensures slots { self.new.list.items ≡ map (arrived_slot self.old.clock) self.old.list.items }
+        ensures count { result.count ≡ count_by (due self.old.clock) (tasks_of self.old.list.items) }
+        ensures lowest { result.lowest ≡ lowest_due self.old.clock (tasks_of self.old.list.items) }
+    {
+        let struck = arrive_each(self.list.as_mut_slice(), self.clock);
+        self.clock += 1;
+        struck
+    }
+
+    // The unit goes to line `line`.
+    fn give_to(&mut self, line: u32) -> UnitReport
+        requires line { (0 < line) × (line ≤ length self.old.list.items) }
+        requires pending { pending (slice_index_or self.old.list.items (line - 1) blank_slot).task ≡ true }
+        ensures clock { self.new.clock ≡ self.old.clock }
+        ensures tasks { tasks_of self.new.list.items ≡ on_line line given (tasks_of self.old.list.items) }
+        ensures tracks { tracks_of self.new.list.items ≡ tracks_of self.old.list.items }
+        ensures report { result ≡ unit_for (slice_index_or self.old.list.items (line - 1) blank_slot).task }
+    {
+        let slot = &mut self.list.as_mut_slice()[line as usize - 1];
+        give_unit(&mut slot.task)
+    }
+
+    // The unit goes to the pending job that goes first.
+    fn give_first<R: Ranking>(&mut self, ranking: &R) -> Option<UnitReport>
+        ensures clock { self.new.clock ≡ self.old.clock }
+        ensures tasks { tasks_of self.new.list.items ≡ map (served (number_of (first_of (R.ahead ranking.now) (tasks_of self.old.list.items)))) (tasks_of self.old.list.items) }
+        ensures tracks { tracks_of self.new.list.items ≡ tracks_of self.old.list.items }
+        ensures unit { result ≡ option_map unit_for (first_of (R.ahead ranking.now) (tasks_of self.old.list.items)) }
+    {
+        let line = first(self.list.as_slice(), ranking)?.task.number;
+        Some(self.give_to(line))
+    }
+
+    // The unit at the clock.
+    pub(crate) fn step<R: Ranking>(&mut self, ranking: &R) -> Stepped
+        requires { self.old.clock < 10 ^ 12 }
+        ensures clock { self.new.clock ≡ self.old.clock + 1 }
+        ensures tasks { tasks_of self.new.list.items ≡ stepped_all (R.ahead ranking.now) self.old.clock (tasks_of self.old.list.items) }
+        ensures tracks { tracks_of self.new.list.items ≡ tracks_of self.old.list.items }
+        ensures report { result.report ≡ report_of (R.ahead ranking.now) self.old.clock (tasks_of self.old.list.items) }
+        ensures lowest { result.lowest ≡ lowest_due self.old.clock (tasks_of self.old.list.items) }
+        ensures first { ToFirst (R.ahead ranking.now) (arrived_all self.old.clock (tasks_of self.old.list.items)) (line_of result.report) }
+    {
+        let struck = self.arrive_all();
+        let unit = self.give_first(ranking);
+        Stepped {
+            report: StepReport {
+                unit,
+                struck: struck.count,
+            },
+            lowest: struck.lowest,
+        }
     }
 }

@@ -1,11 +1,11 @@
-//! What one instant does to a line under way.
+//! What one instant does to a line under way. Each function bounds the one count that it adds to: a task is plain data
+//! of the definitions, and that its counts stay below the clock is what `Slots` keeps.
 
-ghost use Rattle.std.specs.Prelude.{◌≡◌, ◌^◌, ◌<◌, ◌≤◌, true};
-ghost use Rattle.runs.specs.Tasks.{pending, due, struck, arrives, admitted, job_of, given, new_task};
+ghost use Rattle.std.specs.Prelude.{◌≡◌, ◌+◌, ◌^◌, ◌<◌, ◌≤◌, true};
+ghost use Rattle.runs.specs.Tasks.{pending, due, struck, arrives, admitted, given, new_task};
 
-use model::job::Job;
 use model::line::Line;
-use runs::task::{Counts, Task};
+use runs::task::Task;
 
 // Before its first instant, and not at rest.
 pub(crate) fn new_task(number: u32, line: Line) -> Task
@@ -14,15 +14,7 @@ pub(crate) fn new_task(number: u32, line: Line) -> Task
     Task {
         number,
         line,
-        release: 0,
-        left: 0,
-        resting: false,
-        counts: Counts {
-            made: 0,
-            ended: 0,
-            missed: 0,
-            aside: 0,
-        },
+        ..Task::default()
     }
 }
 
@@ -39,6 +31,16 @@ fn is_due(task: &Task, t: u64) -> bool
     task.left > 0 && task.release + task.line.deadline as u64 == t
 }
 
+// A job is over: it has nothing left to run, and one more is counted.
+pub(crate) fn close(left: &mut u32, count: &mut u64)
+    requires { count.old ≤ 10 ^ 12 }
+    ensures left { left.new ≡ 0 }
+    ensures count { count.new ≡ count.old + 1 }
+{
+    *left = 0;
+    *count += 1;
+}
+
 // Strikes the pending job out if it comes to its deadline at `t`, and says whether it did.
 pub(crate) fn strike(task: &mut Task, t: u64) -> bool
     requires { (task.old.release < 10 ^ 12) × (task.old.counts.missed ≤ 10 ^ 12) }
@@ -47,8 +49,7 @@ pub(crate) fn strike(task: &mut Task, t: u64) -> bool
 {
     let due = is_due(task, t);
     if due {
-        task.left = 0;
-        task.counts.missed += 1;
+        close(&mut task.left, &mut task.counts.missed);
     }
     due
 }
@@ -72,16 +73,4 @@ pub(crate) fn give(task: &mut Task)
         task.counts.ended += 1;
     }
     task.left -= 1;
-}
-
-pub(crate) fn job(task: &Task) -> Job
-    ensures { result ≡ job_of task.now }
-{
-    Job {
-        line: task.number,
-        kind: task.line.kind,
-        release: task.release,
-        deadline: task.line.deadline,
-        period: task.line.period,
-    }
 }

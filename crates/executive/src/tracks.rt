@@ -1,22 +1,15 @@
-//! When the lines' jobs start, and what the starts come to: a track for each line.
+//! When the lines' jobs start, and what the starts come to.
 
-ghost use Rattle.std.specs.Prelude.{◌≡◌, ◌+◌, ◌^◌, ◌<◌, ◌≤◌, max, true, List, length, get_or, Some, slice_index_or};
-ghost use Rattle.model.specs.Ranges.{AllRanged, blank};
-ghost use Rattle.runs.specs.declared.task.Task.{Task};
-ghost use Rattle.runs.specs.Jitter.{start_at, distance as distance_of, deviation as deviation_of, no_track, noted, track_figures, note_start};
-ghost use Rattle.executive.specs.Executives.{lines_of, Tracked, AllTracked};
+ghost use Rattle.std.specs.Prelude.{◌≡◌, ◌+◌, ◌^◌, ◌<◌, ◌≤◌, max, length};
+ghost use Rattle.std.specs.Option.{ForSome};
+ghost use Rattle.runs.specs.Jitter.{start_at, deviation as deviation_of, noted, note_start, note_unit, track_figures};
+ghost use Rattle.executive.specs.Slots.{Tracked, AllTracked, tasks_of, tracks_of};
 
+use crate::slot::Slot;
+use crate::slots::Slots;
 use model::line::Line;
-use runs::call::StepReport;
+use runs::call::{StepReport, UnitReport};
 use runs::jitter::{Figures, Start, Track};
-
-// Of a line that has started no job.
-pub(crate) const NO_TRACK: Track = Track {
-    last: None,
-    number: 0,
-    sum: 0,
-    largest: 0,
-};
 
 // A job of the line starts at `t`; none starts before the line's offset.
 fn start_at(line: &Line, t: u64) -> Start
@@ -29,39 +22,17 @@ fn start_at(line: &Line, t: u64) -> Start
     }
 }
 
-fn distance(a: u64, b: u64) -> u64
-    ensures { result ≡ distance_of a b }
-{
-    a.abs_diff(b)
-}
-
 // How far two starts that follow each other lie from being a period apart.
 fn deviation(line: &Line, a: Start, b: Start) -> u64
     requires { a.instant ≤ b.instant }
     ensures { result ≡ deviation_of line.now a b }
 {
-    distance(b.instant - a.instant, line.period as u64)
-}
-
-// The start is the last one from now on; gives the one before.
-fn replace_last(track: &mut Track, start: Start) -> Option<Start>
-    ensures before { result ≡ track.old.last }
-    ensures last { track.new.last ≡ Some start }
-    ensures number { track.new.number ≡ track.old.number }
-    ensures sum { track.new.sum ≡ track.old.sum }
-    ensures largest { track.new.largest ≡ track.old.largest }
-{
-    let before = track.last;
-    track.last = Some(start);
-    before
+    (b.instant - a.instant).abs_diff(line.period as u64)
 }
 
 fn add_deviation(track: &mut Track, deviation: u64)
     requires { (track.old.number ≤ 10 ^ 12) × ((track.old.sum ≤ 10 ^ 17) × (deviation ≤ 10 ^ 17)) }
-    ensures last { track.new.last ≡ track.old.last }
-    ensures number { track.new.number ≡ track.old.number + 1 }
-    ensures sum { track.new.sum ≡ track.old.sum + deviation }
-    ensures largest { track.new.largest ≡ max track.old.largest deviation }
+    ensures { track.new ≡ record track.old { number = track.old.number + 1; sum = track.old.sum + deviation; largest = max track.old.largest deviation } }
 {
     track.number += 1;
     track.sum += deviation;
@@ -73,48 +44,62 @@ fn note(track: &mut Track, line: &Line, start: Start)
     requires tracked { Tracked start.instant line.now track.old }
     requires period { line.now.period ≤ 60000 }
     requires early { start.instant < 10 ^ 12 }
-    ensures track { track.new ≡ noted line.now start track.old }
+    ensures { track.new ≡ noted line.now start track.old }
 {
-    if let Some(before) = replace_last(track, start) {
+    if let Some(before) = track.last.replace(start) {
         add_deviation(track, deviation(line, before, start));
     }
 }
 
-// A step at `t` that began a job adds a start to its line.
-pub(crate) fn note_start(tracks: &mut [Track], lines: &[Line], report: StepReport, t: u64)
-    requires tracked { AllTracked t lines.now tracks.old }
-    requires ranged { AllRanged lines.now }
-    requires line { report.began ≡ true → (0 < report.line) × (report.line ≤ length lines.now) }
-    requires early { t < 10 ^ 12 }
-    ensures tracks { (xs : List Task) → lines_of xs ≡ lines.now → tracks.new ≡ note_start t report xs tracks.old }
-    ensures tracked { AllTracked (t + 1) lines.now tracks.new }
-{
-    if !report.began {
-        return;
-    }
-    let i = report.line as usize - 1;
-    note(&mut tracks[i], &lines[i], start_at(&lines[i], t));
-}
-
-fn figures_of(line: &Line, track: &Track) -> Figures
-    requires { (track.now.number ≤ 10 ^ 12) × ((track.now.sum ≤ 10 ^ 17) × (line.now.period ≤ 60000)) }
-    ensures { result ≡ track_figures line.now track.now }
-{
-    Figures {
-        number: track.number,
-        sum: track.sum,
-        largest: track.largest,
-        numerator: 100 * track.sum,
-        denominator: track.number * line.period as u64,
+impl Slot {
+    // The line's jitter figures.
+    pub(crate) fn figures(&self) -> Figures
+        requires { (self.now.track.number ≤ 10 ^ 12) × ((self.now.track.sum ≤ 10 ^ 17) × (self.now.task.line.period ≤ 60000)) }
+        ensures { result ≡ track_figures self.now.task.line self.now.track }
+    {
+        Figures {
+            number: self.track.number,
+            sum: self.track.sum,
+            largest: self.track.largest,
+            numerator: 100 * self.track.sum,
+            denominator: self.track.number * self.task.line.period as u64,
+        }
     }
 }
 
-// The figures of the line at place i.
-pub(crate) fn figures_at(lines: &[Line], tracks: &[Track], i: usize) -> Figures
-    requires place { (i < length lines.now) × (i < length tracks.now) }
-    requires small { ((get_or tracks.now i no_track).number ≤ 10 ^ 12) × ((get_or tracks.now i no_track).sum ≤ 10 ^ 17) }
-    requires period { (get_or lines.now i blank).period ≤ 60000 }
-    ensures { result ≡ track_figures (slice_index_or lines.now i blank) (slice_index_or tracks.now i no_track) }
-{
-    figures_of(&lines[i], &tracks[i])
+impl Slots {
+    // A unit at `t` that began a job adds a start to its line.
+    fn note_unit(&mut self, unit: UnitReport, t: u64)
+        requires line { (0 < unit.line) × (unit.line ≤ length self.old.list.items) }
+        requires tracked { AllTracked t self.old.list.items }
+        requires early { t < 10 ^ 12 }
+        ensures clock { self.new.clock ≡ self.old.clock }
+        ensures tasks { tasks_of self.new.list.items ≡ tasks_of self.old.list.items }
+        ensures tracks { tracks_of self.new.list.items ≡ note_unit t unit (tasks_of self.old.list.items) (tracks_of self.old.list.items) }
+        ensures tracked { AllTracked (t + 1) self.new.list.items }
+    {
+        if unit.began {
+            let slot = &mut self.list.as_mut_slice()[unit.line as usize - 1];
+            note(
+                &mut slot.track,
+                &slot.task.line,
+                start_at(&slot.task.line, t),
+            );
+        }
+    }
+
+    // The same for the unit of a step at `t`, if it was anyone's.
+    pub(crate) fn note_start(&mut self, report: StepReport, t: u64)
+        requires line { ForSome report.unit (λ u. (0 < u.line) × (u.line ≤ length self.old.list.items)) }
+        requires tracked { AllTracked t self.old.list.items }
+        requires early { t < 10 ^ 12 }
+        ensures clock { self.new.clock ≡ self.old.clock }
+        ensures tasks { tasks_of self.new.list.items ≡ tasks_of self.old.list.items }
+        ensures tracks { tracks_of self.new.list.items ≡ note_start t report (tasks_of self.old.list.items) (tracks_of self.old.list.items) }
+        ensures tracked { AllTracked (t + 1) self.new.list.items }
+    {
+        if let Some(unit) = report.unit {
+            self.note_unit(unit, t);
+        }
+    }
 }

@@ -2,6 +2,7 @@
 
 ghost use Rattle.std.specs.Prelude.{◌≡◌, min, length, drop};
 ghost use Rattle.planning.specs.Hyperperiods.{hyperperiod};
+ghost use Rattle.planning.specs.Places.{plan_set};
 ghost use Rattle.runs.specs.Histories.{Ran};
 ghost use Rattle.runs.specs.Promise.{Promised};
 ghost use Rattle.executive.specs.Batches.{events_of, TookEach};
@@ -12,13 +13,6 @@ use model::ranking::Ranking;
 use planning::plan::Plan;
 use runs::call::{Call, Reply};
 
-// How many of the calls have a place for their reply.
-fn places(calls: &[Call], replies: &[Reply]) -> usize
-    ensures { result ≡ min (length calls.now) (length replies.now) }
-{
-    calls.len().min(replies.len())
-}
-
 impl<R: Ranking> Executive<R> {
     // Makes the calls one after another, and puts each reply into the place of its call; calls without
     // a place for their reply are not made.
@@ -27,11 +21,12 @@ impl<R: Ranking> Executive<R> {
         ensures behind { drop result replies.new ≡ drop result replies.old }
         ensures took { TookEach (R.ahead self.old.ranking) self.old self.new (events_of calls.now replies.new) }
     {
-        let n = places(calls, replies);
-        for i in 0..n {
-            replies[i] = self.take(calls[i]);
+        let made = calls.len().min(replies.len());
+        // By places, since nothing is known of a slice behind an `iter_mut` in a `zip`.
+        for (i, call) in calls[..made].iter().enumerate() {
+            replies[i] = self.take(*call);
         }
-        n
+        made
     }
 }
 
@@ -47,8 +42,8 @@ pub fn run<R: Ranking>(
     ensures plan { result.plan ≡ plan }
     ensures ranking { result.ranking ≡ ranking }
     ensures behind { drop (length calls.now) replies.new ≡ drop (length calls.now) replies.old }
-    ensures ran { Ran (R.ahead ranking) plan.lines.items start (events_of calls.now replies.new) (view_of result) }
-    ensures promised { Promised (R.ahead ranking) plan.lines.items (hyperperiod plan.lines.items) start (events_of calls.now replies.new) (view_of result) }
+    ensures ran { Ran (R.ahead ranking) (plan_set plan).lines start (events_of calls.now replies.new) (view_of result) }
+    ensures promised { Promised (R.ahead ranking) (plan_set plan).lines (hyperperiod (plan_set plan).lines) start (events_of calls.now replies.new) (view_of result) }
 {
     let mut executive = Executive::start(plan, ranking, start);
     executive.take_each(calls, replies);

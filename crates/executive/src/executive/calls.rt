@@ -1,23 +1,20 @@
 //! The calls of an executive. None of them allocates, and a refused call changes nothing.
 
-ghost use Rattle.std.specs.Prelude.{◌≡◌, ◌+◌, ◌^◌, ◌<◌, ◌≤◌, IfOk, vec_len};
-ghost use Rattle.runs.specs.Calls.{begun, last_of};
+ghost use Rattle.std.specs.Prelude.{◌≡◌, ◌+◌, ◌^◌, ◌≤◌, IfOk, length};
+ghost use Rattle.planning.specs.Places.{plan_set};
+ghost use Rattle.runs.specs.Calls.{begun};
 ghost use Rattle.runs.specs.Histories.{start_of};
-ghost use Rattle.executive.specs.Changes.{counts_of as counts_at, counts_in};
+ghost use Rattle.executive.specs.Changes.{counts_in};
 ghost use Rattle.executive.specs.Views.{view_of, unit_or, done_or, Took};
 ghost use Rattle.runs.specs.declared.call.Call.TheVariants.{Step, EarlyEnd, Rest, Resume};
 
 use super::Executive;
-use crate::between::{Event, end_early, last_after, line_to_change, place_in, set_aside, take_up};
-use crate::slot::{NO_SLOT, set_up};
-use crate::step::step;
-use crate::task::is_pending;
-use crate::tracks::{NO_TRACK, note_start};
+use crate::between::{Change, Event, last_after};
+use crate::slots::Slots;
 use model::fault::Fault;
 use model::ranking::Ranking;
 use planning::plan::Plan;
-use runs::call::{Call, CountsReport, LastUnit, Reply, StepReport};
-use runs::task::Task;
+use runs::call::{Accepted, Call, CountsReport, LastUnit, Reply, StepReport};
 
 const LAST_CLOCK: u64 = 1_000_000_000_000;
 
@@ -29,82 +26,30 @@ fn clock_from(start: u64) -> u64
     start.min(LAST_CLOCK)
 }
 
-// The clock moves on, and the last unit went where the step reports.
-fn note_unit(clock: &mut u64, last: &mut LastUnit, report: StepReport)
-    requires { clock.old < 10 ^ 12 }
-    ensures clock { clock.new ≡ clock.old + 1 }
-    ensures last { last.new ≡ last_of report }
-{
-    *clock += 1;
-    let line = report.line;
-    *last = if line == 0 {
-        LastUnit::Idle
-    } else if report.ended {
-        LastUnit::Ended { line }
-    } else {
-        LastUnit::Running { line }
-    };
-}
-
-fn unit_or(res: Result<StepReport, Fault>) -> Reply
-    ensures { result ≡ unit_or res }
-{
-    match res {
-        Ok(report) => Reply::Unit(report),
-        Err(fault) => Reply::Refused(fault),
-    }
-}
-
-fn done_or(res: Result<(), Fault>) -> Reply
-    ensures { result ≡ done_or res }
-{
-    match res {
-        Ok(()) => Reply::Done,
-        Err(fault) => Reply::Refused(fault),
-    }
-}
-
-fn counts_of(task: &Task) -> CountsReport
-    ensures { result ≡ counts_at task.now }
-{
-    CountsReport {
-        made: task.counts.made,
-        ended: task.counts.ended,
-        missed: task.counts.missed,
-        aside: task.counts.aside,
-        pending: if is_pending(task) { 1 } else { 0 },
-    }
-}
-
 impl<R: Ranking> Executive<R> {
     // The plan's lines, from the instant `start` on.
     pub fn start(plan: Plan, ranking: R, start: u64) -> Executive<R>
-        ensures state { view_of result ≡ begun start plan.lines.items }
+        ensures state { view_of result ≡ begun start (plan_set plan).lines }
         ensures plan { result.plan ≡ plan }
         ensures ranking { result.ranking ≡ ranking }
     {
-        let clock = clock_from(start);
-        let mut slots = [NO_SLOT; 24];
-        let lines = plan.lines();
-        set_up(&mut slots[0..lines.len()], lines, clock);
+        let slots = Slots::new(plan.lines(), clock_from(start));
         Executive {
             plan,
             ranking,
-            clock,
             slots,
             last: LastUnit::Idle,
-            tracks: [NO_TRACK; 24],
         }
     }
 
     pub fn clock(&self) -> u64
         ensures { result ≡ (view_of self.now).clock }
     {
-        self.clock
+        self.slots.clock()
     }
 
     pub fn line_count(&self) -> usize
-        ensures { result ≡ vec_len self.now.plan.lines }
+        ensures { result ≡ length (plan_set self.now.plan).lines }
     {
         self.plan.lines().len()
     }
@@ -112,14 +57,13 @@ impl<R: Ranking> Executive<R> {
     pub fn step(&mut self) -> Result<StepReport, Fault>
         ensures { Took (R.ahead self.old.ranking) self.old self.new Step (unit_or result) }
     {
-        if self.clock >= LAST_CLOCK {
-            return Err(Fault::ClockAtEnd { clock: self.clock });
+        let clock = self.clock();
+        if clock >= LAST_CLOCK {
+            return Err(Fault::ClockAtEnd { clock });
         }
-        let n = self.line_count();
-        let report = step(&mut self.slots[0..n], &self.ranking, self.clock).report;
-        let lines = self.plan.lines();
-        note_start(&mut self.tracks[0..n], lines, report, self.clock);
-        note_unit(&mut self.clock, &mut self.last, report);
+        let report = self.slots.step(&self.ranking).report;
+        self.slots.note_start(report, clock);
+        self.last = LastUnit::from(report);
         Ok(report)
     }
 
@@ -127,10 +71,9 @@ impl<R: Ranking> Executive<R> {
     pub fn early_end(&mut self) -> Result<(), Fault>
         ensures { Took (R.ahead self.old.ranking) self.old self.new EarlyEnd (done_or result) }
     {
-        let n = self.line_count();
         match last_after(&mut self.last, Event::EarlyEnd) {
             Some(line) => {
-                end_early(&mut self.slots[0..n], line);
+                self.slots.change(line, Change::EndEarly);
                 Ok(())
             }
             None => Err(Fault::NoJob),
@@ -141,9 +84,12 @@ impl<R: Ranking> Executive<R> {
     pub fn rest(&mut self, number: u64) -> Result<(), Fault>
         ensures { Took (R.ahead self.old.ranking) self.old self.new (Rest number) (done_or result) }
     {
-        let n = self.line_count();
-        let line = line_to_change(&self.slots[0..n], number, true)?;
-        set_aside(&mut self.slots[0..n], line);
+        let task = self.slots.ordinary(number)?.task;
+        let line = task.number;
+        if task.resting {
+            return Err(Fault::RestAsItIs { line });
+        }
+        self.slots.change(line, Change::Rest);
         last_after(&mut self.last, Event::SetAside { line });
         Ok(())
     }
@@ -151,20 +97,24 @@ impl<R: Ranking> Executive<R> {
     pub fn resume(&mut self, number: u64) -> Result<(), Fault>
         ensures { Took (R.ahead self.old.ranking) self.old self.new (Resume number) (done_or result) }
     {
-        let n = self.line_count();
-        let line = line_to_change(&self.slots[0..n], number, false)?;
-        take_up(&mut self.slots[0..n], line);
+        let task = self.slots.ordinary(number)?.task;
+        let line = task.number;
+        if !task.resting {
+            return Err(Fault::RestAsItIs { line });
+        }
+        self.slots.change(line, Change::Resume);
         Ok(())
     }
 
+    // A `match` and no table of functions: the compiler sees that no call is left out.
     pub fn take(&mut self, call: Call) -> Reply
         ensures { Took (R.ahead self.old.ranking) self.old self.new call result }
     {
         match call {
-            Call::Step => unit_or(self.step()),
-            Call::EarlyEnd => done_or(self.early_end()),
-            Call::Rest { number } => done_or(self.rest(number)),
-            Call::Resume { number } => done_or(self.resume(number)),
+            Call::Step => self.step().map(Accepted::Step),
+            Call::EarlyEnd => self.early_end().map(|()| Accepted::Done),
+            Call::Rest { number } => self.rest(number).map(|()| Accepted::Done),
+            Call::Resume { number } => self.resume(number).map(|()| Accepted::Done),
         }
     }
 
@@ -173,8 +123,8 @@ impl<R: Ranking> Executive<R> {
         ensures value { result ≡ counts_in number (view_of self.now).tasks }
         ensures balanced { IfOk result (λ x. x.made ≡ x.ended + x.missed + x.aside + x.pending) }
     {
-        let i = place_in(self.line_count(), number)?;
-        Ok(counts_of(&self.slots[i].task))
+        let slot = self.slots.line(number)?;
+        Ok(CountsReport::from(slot))
     }
 
     // Gives the plan and the ranking back.
@@ -184,10 +134,8 @@ impl<R: Ranking> Executive<R> {
         let Executive {
             plan,
             ranking,
-            clock: _,
             slots: _,
             last: _,
-            tracks: _,
         } = self;
         (plan, ranking)
     }

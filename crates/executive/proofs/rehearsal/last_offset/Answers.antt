@@ -1,16 +1,15 @@
-use Rattle.std.proofs.Common.{◌≡◌, ◌+◌, max, get_or, drop, arith}
-use Rattle.std.proofs.lemmas.List.{at_drop_more, at_drop_all}
-use Rattle.model.specs.Ranges.{blank}
-use Rattle.runs.specs.Rehearsals.{last_offset}
+use Rattle.std.proofs.Common.{ap, ◌∙◌, rules, tests}
+use Rattle.std.specs.Option.{unwrap_or}
+use Rattle.std.specs.Ordering.{max_by_ordering, nat_cmp}
+use Rattle.std.proofs.lemmas.Iterator.{YieldsList-from_map, YieldsList-from_slice}
+use Rattle.std.proofs.lemmas.Iterator.Consumers.{reduce_from_yields_List}
+use Rattle.std.proofs.lemmas.List.Folds.{max_of_map}
+use Rattle.model.specs.declared.line.Line.{Line}
 use Rattle.executive.proofs.rehearsal.last_offset.Goals as goal
 
-pub loop-line-preserved : goal.loop-line-preserved
-loop-line-preserved c =
-    let ls = c.args.lines.now in
-    let i = c.loop-line.line-index in
-    let e : last_offset (drop i ls) ≡ max (get_or ls i blank).offset (last_offset (drop (i + 1) ls)) = at_drop_more last_offset ls i blank c.loop-line-test.true in
-    let m : c.max-largest.result ≡ max c.loop-line.largest (get_or ls i blank).offset = c.max-largest.ensures in
-    omega (arith, e, m, c.loop-line.invariant)
-
 pub returns : goal.returns
-returns c = omega (arith, at_drop_all last_offset c.args.lines.now c.loop-line.line-index c.loop-line-test.false, c.loop-line.invariant)
+returns c =
+    let ls = c.args.lines.now in
+    c.unwrap_or.ensures
+    ∙ ap (λ o. unwrap_or o 0) (reduce_from_yields_List (λ p z. max_by_ordering (nat_cmp p z) p z) c.map.result c.max.result c.max.ensures.ran (YieldsList-from_map _ (λ (l : Line). l.offset) (YieldsList-from_slice ls (cc)) c.map.ensures.closure (λ x r q k. search (rules, tests))))
+    ∙ max_of_map (λ (l : Line). l.offset) ls

@@ -1,7 +1,10 @@
 use Rattle.std.proofs.Common.{◌≡◌, ◌+◌, ◌-◌}
-use Rattle.executive.specs.Slots.{tasks_of, AllKept}
+use Rattle.executive.specs.Slots.{tasks_of}
 use Rattle.runs.specs.Rehearsals.{run_units}
 use Rattle.executive.proofs.rehearsal.run.Given as goal
 
-abbrev pub invariant-loop-t : goal.invariant-loop-t
-invariant-loop-t g l = (run_units (g.R.Ranking.ahead l.ranking) (l.from + l.units - l.t) l.t (tasks_of l.slots) ≡ run_units (g.R.Ranking.ahead l.ranking) l.units l.from (tasks_of l.initial.slots)) × AllKept l.t l.slots
+abbrev pub invariant-loop : goal.invariant-loop
+invariant-loop g l =
+    let ahead = g.R.Ranking.ahead l.ranking in
+    (run_units ahead (l.units - l.counter) l.slots.clock (tasks_of l.slots.list.items) ≡ run_units ahead l.units l.initial.slots.clock (tasks_of l.initial.slots.list.items))
+    × (l.slots.clock ≡ l.initial.slots.clock + l.counter)

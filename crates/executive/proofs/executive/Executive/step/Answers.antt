@@ -1,60 +1,64 @@
-use Rattle.std.proofs.Common.{◌≡◌, ◌-◌, length, vec_items, sym, refl, ap, ◌∙◌, subst, arith}
-use borrow.Rule.Slice.PartMut.{mid_of}
-use Rattle.model.specs.Ranges.{AllRanged}
-use Rattle.executive.specs.Executives.{AllTracked}
-use Rattle.executive.specs.Slots.{AllKept, tasks_of}
-use Rattle.runs.specs.Steps.{report_of}
+use Rattle.std.proofs.Common.{◌≡◌, ◌+◌, length, Err, sym, refl, ap, ◌∙◌, subst, arith}
+use Rattle.std.proofs.lemmas.Bool.Decides.{nat_tests}
+use Rattle.model.specs.declared.fault.Fault.TheVariants.{ClockAtEnd}
+use Rattle.runs.proofs.Pointwise.{length_stepped}
 use Rattle.runs.specs.declared.call.Call.TheVariants.{Step}
-use Rattle.executive.proofs.Outcomes.{step_refused, step_stands, step_next}
-use Rattle.executive.proofs.SoundPlans.{sound_plan}
-use Rattle.executive.proofs.Standings.{began_line}
-use Rattle.executive.proofs.Takings.{lent, lent_tracks, numbered, slot_count, slots_of, standing, task_count, took}
+use Rattle.runs.specs.Calls.{last_of}
+use Rattle.runs.specs.Jitter.{note_start}
+use Rattle.executive.specs.Executives.{lines_of, StillPending}
+use Rattle.executive.specs.Slots.{AllTracked, tasks_of, tracks_of}
 use Rattle.executive.specs.Views.{view_of}
+use Rattle.executive.proofs.Outcomes.{step_refused}
+use Rattle.executive.proofs.Places.{length_tasks, kept_formed}
+use Rattle.executive.proofs.Standings.{lines_stepped, still_stepped, tracked_same, unit_line_within}
+use Rattle.executive.proofs.Tracking.{note_same}
+use Rattle.executive.proofs.Takings.{took}
 use Rattle.executive.proofs.executive.Executive.step.Goals as goal
 
-pub returns-then-self-ge-LAST_CLOCK : goal.returns-then-self-ge-LAST_CLOCK
-returns-then-self-ge-LAST_CLOCK g c =
+pub returns-then-clock-ge-LAST_CLOCK : goal.returns-then-clock-ge-LAST_CLOCK
+returns-then-clock-ge-LAST_CLOCK g c =
     let x = c.args.self.now in
     let ah = g.R.Ranking.ahead x.ranking in
-    let law = g.met.R.Ranking.lawful x.ranking in
-    took ah law x x Step _ (step_refused ah (view_of x) c.if-self-ge-LAST_CLOCK.true) refl refl
+    took ah (g.met.R.Ranking.lawful x.ranking) x x Step _ (step_refused ah (view_of x) (omega (arith, c.clock-clock.ensures, c.if-clock-ge-LAST_CLOCK.true)) ∙ ap (λ t. (view_of x, Err (ClockAtEnd t))) (sym c.clock-clock.ensures)) refl refl
 
-pub step-requires : goal.step-requires
-step-requires g c =
+pub note_start-requires-clause-line : goal.note_start-requires-clause-line
+note_start-requires-clause-line g c u e =
     let x = c.args.self.now in
-    let part = lent x c.line_count-n.result c.line_count-n.ensures in
-    (subst (AllKept x.clock) (sym part) (standing x).kept, (omega (arith, ap length part, slot_count x, x.plan.few), c.if-self-ge-LAST_CLOCK.false))
+    let s = x.slots in
+    let at = unit_line_within (g.R.Ranking.ahead x.ranking) (g.met.R.Ranking.lawful x.ranking) s.clock (omega (arith, c.clock-clock.ensures, c.if-clock-ge-LAST_CLOCK.false)) (tasks_of s.list.items) (kept_formed s.clock s.list.items s.kept s.few) u (ap (λ r. r.unit) (sym c.step.ensures.report) ∙ e) in
+    (at.0, omega (arith, at.1, length_tasks s.list.items, length_tasks c.step.new.self.list.items, ap length c.step.ensures.tasks, length_stepped (g.R.Ranking.ahead x.ranking) s.clock (tasks_of s.list.items)))
 
-pub note_start-requires : goal.note_start-requires
-note_start-requires g c =
+pub note_start-requires-clause-tracked : goal.note_start-requires-clause-tracked
+note_start-requires-clause-tracked g c =
     let x = c.args.self.now in
-    let ah = g.R.Ranking.ahead x.ranking in
-    let ls = c.lines-lines.result.now in
-    let few : length (tasks_of (slots_of x)) ≡ length ls = task_count x c.line_count-n.result c.line_count-n.ensures ∙ c.line_count-n.ensures ∙ x.plan.lines.ok.0 ∙ ap length (sym c.lines-lines.ensures) in
-    record {
-      tracked = subst (λ w. AllTracked x.clock w (mid_of 0 (c.line_count-n.result - 0) x.tracks)) (sym c.lines-lines.ensures) (subst (AllTracked x.clock (vec_items x.plan.lines)) (sym (lent_tracks x c.line_count-n.result c.line_count-n.ensures)) (standing x).tracked);
-      ranged = subst AllRanged (sym c.lines-lines.ensures) (sound_plan x.plan).ranged;
-      line = λ b. let at = began_line ah x.clock (tasks_of (slots_of x)) (numbered x) c.step.result.report (c.step.ensures.report ∙ ap (λ w. report_of ah x.clock (tasks_of w)) (lent x c.line_count-n.result c.line_count-n.ensures)) b in (at.0, omega (arith, at.1, few));
-      early = c.if-self-ge-LAST_CLOCK.false;
-    }
+    let s = x.slots in
+    subst (λ t. AllTracked t c.step.new.self.list.items) (sym c.clock-clock.ensures) (tracked_same s.clock s.list.items c.step.new.self.list.items c.step.ensures.tracks (ap lines_of c.step.ensures.tasks ∙ lines_stepped (g.R.Ranking.ahead x.ranking) s.clock (tasks_of s.list.items)) x.tracked)
 
 pub invariant_of-self : goal.invariant_of-self
 invariant_of-self g c =
     let x = c.args.self.now in
+    let s = x.slots in
     let ah = g.R.Ranking.ahead x.ranking in
     let now = c.step.ensures in
     let noted = c.note_start.ensures in
+    let tasks = noted.tasks ∙ now.tasks in
     record {
-      early = omega (arith, c.if-self-ge-LAST_CLOCK.false, c.note_unit.ensures.clock);
-      standing = ∣ step_stands x c.line_count-n.result c.line_count-n.ensures c.step.new.slots _ c.step.auto.slots ah c.if-self-ge-LAST_CLOCK.false c.step.result.report c.note_unit.new.clock c.note_unit.new.last now.tasks now.report c.note_unit.ensures.clock c.note_unit.ensures.last
-          c.lines-lines.result.now c.lines-lines.ensures c.note_start.new.tracks _ c.note_start.auto.tracks now.kept noted.tracked ∣₁;
+      lines = ap lines_of tasks ∙ lines_stepped ah s.clock (tasks_of s.list.items) ∙ x.lines;
+      running = subst (λ u. StillPending u (tasks_of c.note_start.new.self.list.items)) (sym (c.from-self.ensures ∙ ap last_of now.report)) (subst (StillPending _) (sym tasks) (still_stepped ah (g.met.R.Ranking.lawful x.ranking) s.clock (omega (arith, c.clock-clock.ensures, c.if-clock-ge-LAST_CLOCK.false)) (tasks_of s.list.items) (kept_formed s.clock s.list.items s.kept s.few)));
+      tracked = subst (λ t. AllTracked t c.note_start.new.self.list.items) (ap (λ t. t + 1) c.clock-clock.ensures ∙ sym (noted.clock ∙ now.clock)) noted.tracked;
     }
 
 pub returns : goal.returns
 returns g c =
     let x = c.args.self.now in
+    let s = x.slots in
     let ah = g.R.Ranking.ahead x.ranking in
-    let law = g.met.R.Ranking.lawful x.ranking in
+    let ts = tasks_of s.list.items in
+    let ks = tracks_of s.list.items in
     let now = c.step.ensures in
-    took ah law x _ Step _ (step_next x c.line_count-n.result c.line_count-n.ensures c.step.new.slots _ c.step.auto.slots ah c.if-self-ge-LAST_CLOCK.false c.step.result.report c.note_unit.new.clock c.note_unit.new.last now.tasks now.report c.note_unit.ensures.clock c.note_unit.ensures.last
-    c.lines-lines.result.now c.lines-lines.ensures c.note_start.new.tracks _ c.note_start.auto.tracks c.note_start.ensures.tracks) refl refl
+    let noted = c.note_start.ensures in
+    let r = c.step.result.report in
+    let tracks : note_start s.clock r ts ks ≡ tracks_of c.note_start.new.self.list.items =
+    note_same s.clock r ts (tasks_of c.step.new.self.list.items) ks (sym (ap lines_of now.tasks ∙ lines_stepped ah s.clock ts))
+    ∙ ap (note_start s.clock r (tasks_of c.step.new.self.list.items)) (sym now.tracks) ∙ ap (λ t. note_start t r (tasks_of c.step.new.self.list.items) (tracks_of c.step.new.self.list.items)) (sym c.clock-clock.ensures) ∙ sym noted.tracks in
+    took ah (g.met.R.Ranking.lawful x.ranking) x _ Step _ (grind (arith, nat_tests, tracks)) refl refl

@@ -6,7 +6,7 @@ use Rattle.executive.proofs.executive.Executive.take_each.Given as goal
 
 abbrev pub invariant-loop-i : goal.invariant-loop-i
 invariant-loop-i g l =
-    (drop l.n l.replies ≡ drop l.n l.initial.replies)
+    (drop l.made l.replies ≡ drop l.made l.initial.replies)
     × (l.self.plan ≡ l.initial.self.plan)
     × (l.self.ranking ≡ l.initial.self.ranking)
     × RanFrom (g.R.Ranking.ahead l.initial.self.ranking) (view_of l.initial.self) (events_of (take l.i l.calls) (take l.i l.replies)) (view_of l.self)
