@@ -1,21 +1,17 @@
 -- What one call that prints replies, what its buffer holds then, and what its desk holds.
---   ahead_of              the ranking that a policy names
 --   rehearsed             the rehearsal of a plan, under the ranking of its policy
---   planned_from the plan of a text, or the fault of reading or planning
+--   planned_from          the plan of a text, or the fault of reading or planning
 --   report_text           what is printed of a plan, or of the fault that stood in its way
 --   report_of             what is printed of a text
---   buffer_least the shortest buffer that is taken
+--   buffer_least          the shortest buffer that is taken
 --   reply_of              the reply: the number of bytes, or the refusal
 --   buffer_of             the buffer after the call
 --   kept_or, held_after   what a place holds after a call that fills it
-use Rattle.std.specs.Prelude.{ℕ, Bool, cond, List, length, Ok, Err, Result, nat_lt}
+use Rattle.std.specs.Prelude.{ℕ, cond, List, length, Ok, Err, Result, nat_lt}
 use Rattle.std.specs.Result.{result_err}
 use Rattle.model.specs.declared.fault.Fault.{Fault}
 use Rattle.model.specs.declared.fault.Fault.TheVariants.{BufferTooSmall}
-use Rattle.model.specs.declared.job.Job.{Job}
-use Rattle.model.specs.declared.policy.Policy.{Policy}
-use Rattle.model.specs.declared.policy.Policy.TheVariants.{Dm, Ed}
-use Rattle.model.specs.Rankings.{dm_ahead, ed_ahead}
+pub use Rattle.model.specs.Rankings.{ahead_of}
 use Rattle.model.specs.Results.{and_then}
 use Rattle.model.specs.TaskSets.{TaskSet}
 use Rattle.sheet.specs.Reading.{read_sheet}
@@ -24,10 +20,6 @@ use Rattle.planning.specs.Plans.{plan_of}
 use Rattle.runs.specs.Rehearsals.{rehearsal_of}
 use Rattle.report.specs.Pages.{written}
 use Rattle.report.specs.Printed.{fault_line, outcome_text}
-
-abbrev pub ahead_of : Policy → Job → Job → Bool
-ahead_of Dm = dm_ahead
-ahead_of Ed = ed_ahead
 
 abbrev pub rehearsed : TaskSet → Result (Unit {0}) Fault
 rehearsed plan = rehearsal_of (ahead_of plan.policy) (hyperperiod plan.lines) plan.lines

@@ -1,20 +1,19 @@
 //! The desk of the planning engineer: a place for the sheet and one for the plan, and the one call
 //! that reads, plans, rehearses and prints.
 
-ghost use Rattle.std.specs.Prelude.{◌≡◌, ◌≤◌, length, IfOk, MatchResult};
+ghost use Rattle.std.specs.Prelude.{◌≡◌, ◌+◌, ◌≤◌, length, IfOk, MatchResult};
 ghost use Rattle.std.specs.Result.{result_err};
 ghost use Rattle.model.specs.TaskSets.{no_tasks, Filled};
 ghost use Rattle.model.specs.declared.fault.Fault.TheVariants.{NoMemory};
 ghost use Rattle.sheet.specs.Reading.{read_sheet};
 ghost use Rattle.report.specs.Desks.{plan_held, sheet_held};
-ghost use Rattle.report.specs.Pages.{written};
+ghost use Rattle.report.specs.Pages.{Wrote};
 ghost use Rattle.report.specs.Reports.{buffer_least, buffer_of, held_after, kept_or, planned_from, rehearsed, reply_of, report_of};
 
-use crate::outcome::{show_fault, show_outcome};
+use crate::lines::{fault_line, outcome_text};
+use crate::page::Page;
 use executive::rehearsal::rehearse;
 use model::fault::Fault;
-use model::policy::Policy;
-use model::rankings::{DeadlineMonotonic, EarliestDeadline};
 use planning::plan::Plan;
 use sheet::sheet::Sheet;
 use std::alloc::Global;
@@ -47,31 +46,27 @@ impl Desk {
         self.plan.plan(&self.sheet)
     }
 
-    // Rehearses the plan under the ranking that its policy names.
+    // The fault that a rehearsal under the ranking of the plan's policy comes to, if it does.
     fn verdict(&self) -> Option<Fault>
         ensures { result ≡ result_err (rehearsed (plan_held self.now)) }
     {
-        match self.plan.policy() {
-            Policy::Dm => rehearse(&self.plan, &DeadlineMonotonic).err(),
-            Policy::Ed => rehearse(&self.plan, &EarliestDeadline).err(),
-        }
+        rehearse(&self.plan, &self.plan.policy()).err()
     }
 
-    // Writes the report of a text at the start of a buffer that is long enough for every report.
-    fn write_report(&mut self, text: &[u8], out: &mut [u8]) -> usize
-        requires { buffer_least ≤ length out.old }
-        ensures end { result ≡ length (report_of text.now) }
-        ensures fits { result ≤ buffer_least }
-        ensures bytes { out.new ≡ written out.old 0 (report_of text.now) }
+    // Puts the report of a text on a page that has room for every report.
+    fn put_report(&mut self, page: &mut Page, text: &[u8])
+        requires { page.old.at + buffer_least ≤ length page.old.out.now }
+        ensures wrote { Wrote page.old page.new (report_of text.now) }
+        ensures short { length (report_of text.now) ≤ buffer_least }
         ensures sheet { sheet_held self.new ≡ kept_or (read_sheet text.now) (sheet_held self.old) }
         ensures plan { plan_held self.new ≡ kept_or (planned_from text.now) (plan_held self.old) }
     {
         match self.prepare(text) {
             Ok(()) => {
                 let verdict = self.verdict();
-                show_outcome(out, self.plan.hyperperiod(), self.plan.lines(), verdict)
+                outcome_text(page, self.plan.hyperperiod(), self.plan.lines(), verdict);
             }
-            Err(fault) => show_fault(out, fault),
+            Err(fault) => fault_line(page, fault),
         }
     }
 
@@ -87,6 +82,8 @@ impl Desk {
         if out.len() < BUFFER_LEAST {
             return Err(Fault::BufferTooSmall);
         }
-        Ok(self.write_report(text, out))
+        let mut page = Page { out, at: 0 };
+        self.put_report(&mut page, text);
+        Ok(page.at)
     }
 }

@@ -3,6 +3,5 @@
 #![tactic(auto)]
 
 pub mod desk;
-pub(crate) mod lines;
-pub(crate) mod outcome;
-pub(crate) mod page;
+mod lines;
+mod page;

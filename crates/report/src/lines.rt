@@ -1,6 +1,7 @@
-//! The lines of a report, each put on a page.
+//! The lines of a report, each put on a page. Each asks for the room that its own text needs.
 
-ghost use Rattle.std.specs.Prelude.{◌≡◌, ◌+◌, ◌≤◌, length};
+ghost use Rattle.std.specs.Prelude.{◌≡◌, ◌+◌, ◌≤◌, [], ◌∷◌, ◌++◌, length};
+ghost use Rattle.model.specs.Faults.{fault_text};
 ghost use Rattle.report.specs.Pages.{Room, Wrote};
 ghost use Rattle.report.specs.Printed.{code_figures, cycle_line, kind_word, task_figures, task_line, task_lines, plan_text};
 ghost use Rattle.report.specs.Printed.{passed_line, fault_line, verdict_line, verdict_room, outcome_text};
@@ -17,6 +18,7 @@ fn cycle_line(page: &mut Page, hyperperiod: u32)
     page.row(b"H", &[hyperperiod as u64]);
 }
 
+// Bytes for the page and no `Display`, which may fail where a report must not.
 fn kind_word(kind: Kind) -> &'static [u8]
     ensures { result.now ≡ kind_word kind }
 {
@@ -83,10 +85,12 @@ fn code_figures(code: &FaultCode) -> [u64; 4]
     ]
 }
 
+// As the fault prints itself, and the byte that ends the line.
 pub(crate) fn fault_line(page: &mut Page, fault: Fault)
     requires { page.old.at + verdict_room ≤ length page.old.out.now }
     ensures wrote { Wrote page.old page.new (fault_line fault) }
     ensures short { length (fault_line fault) ≤ verdict_room }
+    ensures printed { fault_line fault ≡ fault_text fault ++ 10 ∷ [] }
 {
     page.row(b"fault", &code_figures(&fault.code()));
 }

@@ -14,8 +14,8 @@ next ns i h = at_drop_more figures ns i 0 h
 pub loop-n-init : goal.loop-n-init
 loop-n-init c = half_start c.args.self.now (figures c.args.numbers.now) c.requires
 
-pub put-requires : goal.put-requires
-put-requires c =
+pub text-requires : goal.text-requires
+text-requires c =
     let ns = c.args.numbers.now in
     let i = c.loop-n.n-index in
     half_room (32 ∷ []) (behind ns i) (next ns i c.loop-n-test.true) c.loop-n.invariant
@@ -25,14 +25,14 @@ number-requires c =
     let ns = c.args.numbers.now in
     let i = c.loop-n.n-index in
     half_room (decimal (get_or ns i 0)) (figures (drop (i + 1) ns)) refl
-    (half_more (32 ∷ []) (behind ns i) (next ns i c.loop-n-test.true) c.loop-n.invariant c.put.new.self c.put.ensures)
+    (half_more (32 ∷ []) (behind ns i) (next ns i c.loop-n-test.true) c.loop-n.invariant c.text.new.self c.text.ensures)
 
 pub loop-n-preserved : goal.loop-n-preserved
 loop-n-preserved c =
     let ns = c.args.numbers.now in
     let i = c.loop-n.n-index in
     half_more (decimal (get_or ns i 0)) (figures (drop (i + 1) ns)) refl
-    (half_more (32 ∷ []) (behind ns i) (next ns i c.loop-n-test.true) c.loop-n.invariant c.put.new.self c.put.ensures) c.number.new.self c.number.ensures
+    (half_more (32 ∷ []) (behind ns i) (next ns i c.loop-n-test.true) c.loop-n.invariant c.text.new.self c.text.ensures) c.number.new.self c.number.ensures
 
 pub returns : goal.returns
 returns c =

@@ -27,10 +27,10 @@ figures-requires c =
     let ns = c.args.numbers.now in
     half_room (figures ns) (10 ∷ []) refl (at_figures c.args.self.now c.args.word.now ns c.requires c.text.new.self c.text.ensures)
 
-pub put-requires : goal.put-requires
-put-requires c =
+pub text-requires-2 : goal.text-requires-2
+text-requires-2 c =
     (at_end c.args.self.now c.args.word.now c.args.numbers.now c.requires c.text.new.self c.figures.new.self c.text.ensures c.figures.ensures).room
 
 pub returns : goal.returns
 returns c =
-    (at_end c.args.self.now c.args.word.now c.args.numbers.now c.requires c.text.new.self c.figures.new.self c.text.ensures c.figures.ensures).ends c.put.new.self c.put.ensures
+    (at_end c.args.self.now c.args.word.now c.args.numbers.now c.requires c.text.new.self c.figures.new.self c.text.ensures c.figures.ensures).ends c.text-2.new.self c.text-2.ensures
