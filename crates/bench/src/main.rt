@@ -5,13 +5,9 @@
 use script::bench;
 use std::io::Read;
 
-fn answer(rt: &HostRuntime) -> anyhow::Result<()> {
+fn main(rt: HostRuntime) -> anyhow::Result<()> {
     let mut input = Vec::new(rt.alloc());
     rt.stdin().read_to_end(&mut input)?;
-    bench(rt, &input)?;
+    bench(&rt, &input)?;
     Ok(())
-}
-
-fn main(rt: HostRuntime) -> anyhow::Result<()> {
-    answer(&rt)
 }

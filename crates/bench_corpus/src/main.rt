@@ -4,24 +4,16 @@
 
 #![tactic(auto)]
 
-use script::{bench, next_record};
+use script::batch::Records;
+use script::bench;
 use std::io::Read;
-
-fn answer_all(rt: &HostRuntime, batch: &[u8]) -> anyhow::Result<()> {
-    let mut rest = batch;
-    for k in 1..=batch.len() {
-        let Some((script, behind)) = next_record(rest) else {
-            break;
-        };
-        println!(rt; "== {k}")?;
-        bench(rt, script)?;
-        rest = behind;
-    }
-    Ok(())
-}
 
 fn main(rt: HostRuntime) -> anyhow::Result<()> {
     let mut batch = Vec::new(rt.alloc());
     rt.stdin().read_to_end(&mut batch)?;
-    answer_all(&rt, &batch)
+    for (script, k) in Records::new(&batch).zip(1u64..) {
+        println!(rt; "== {k}")?;
+        bench(&rt, script)?;
+    }
+    Ok(())
 }

@@ -5,27 +5,22 @@
 #![tactic(auto)]
 
 use report::desk::Desk;
-use script::next_record;
+use script::batch::Records;
 use std::io::{Read, Write};
 
-fn answer_one(rt: &HostRuntime, desk: &mut Desk, k: usize, text: &[u8]) -> anyhow::Result<()> {
+fn answer_one(rt: &HostRuntime, desk: &mut Desk, k: u64, text: &[u8]) -> anyhow::Result<()> {
+    // The call writes into a buffer of the caller's, and says how many bytes.
     let mut out = [0; 1024];
     let written = desk.print(text, &mut out)?;
     println!(rt; "== {k}")?;
-    let mut output = rt.stdout();
-    output.write_all(&out[0..written])?;
+    rt.stdout().write_all(&out[..written])?;
     Ok(())
 }
 
 fn answer_all(rt: &HostRuntime, batch: &[u8]) -> anyhow::Result<()> {
     let mut desk = Desk::new(rt.alloc())?;
-    let mut rest = batch;
-    for k in 1..=batch.len() {
-        let Some((text, behind)) = next_record(rest) else {
-            break;
-        };
+    for (text, k) in Records::new(batch).zip(1u64..) {
         answer_one(rt, &mut desk, k, text)?;
-        rest = behind;
     }
     Ok(())
 }

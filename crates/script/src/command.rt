@@ -1,8 +1,10 @@
 //! The commands of a script.
 
-use crate::text::{behind, number};
+use crate::text::number;
 use runs::call::Call;
+use sheet::cutting::split_once;
 
+#[derive(Clone, Copy)]
 pub(crate) enum Command {
     Step(u64),
     Run(u64),
@@ -13,27 +15,34 @@ pub(crate) enum Command {
     Worst,
 }
 
-// A command is a word, or a word, one space and a number; any other line is none.
-pub(crate) fn command_of(line: &[u8]) -> Option<Command> {
-    match line {
-        b"step" => return Some(Command::Step(1)),
-        b"end" => return Some(Command::Call(Call::EarlyEnd)),
-        b"counts" => return Some(Command::Counts),
-        b"figures" => return Some(Command::Figures),
-        b"coming" => return Some(Command::Coming),
-        b"worst" => return Some(Command::Worst),
-        _ => {}
+impl Command {
+    // A command is a word, or a word, one space and a number; any other line is none.
+    pub(crate) fn parse(line: &[u8]) -> Option<Command> {
+        match split_once(line, b' ') {
+            None => Command::of_word(line),
+            Some((word, digits)) => Command::of_number(word, number(digits)?),
+        }
     }
-    if let Some(digits) = behind(line, b"step") {
-        return Some(Command::Step(number(digits)?));
+
+    fn of_word(word: &[u8]) -> Option<Command> {
+        match word {
+            b"step" => Some(Command::Step(1)),
+            b"end" => Some(Command::Call(Call::EarlyEnd)),
+            b"counts" => Some(Command::Counts),
+            b"figures" => Some(Command::Figures),
+            b"coming" => Some(Command::Coming),
+            b"worst" => Some(Command::Worst),
+            _ => None,
+        }
     }
-    if let Some(digits) = behind(line, b"run") {
-        return Some(Command::Run(number(digits)?));
+
+    fn of_number(word: &[u8], number: u64) -> Option<Command> {
+        match word {
+            b"step" => Some(Command::Step(number)),
+            b"run" => Some(Command::Run(number)),
+            b"rest" => Some(Command::Call(Call::Rest { number })),
+            b"resume" => Some(Command::Call(Call::Resume { number })),
+            _ => None,
+        }
     }
-    if let Some(digits) = behind(line, b"rest") {
-        let number = number(digits)?;
-        return Some(Command::Call(Call::Rest { number }));
-    }
-    let number = number(behind(line, b"resume")?)?;
-    Some(Command::Call(Call::Resume { number }))
 }

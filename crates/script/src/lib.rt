@@ -3,49 +3,39 @@
 
 #![tactic(auto)]
 
+pub mod batch;
 mod command;
 mod text;
 
-use crate::command::{Command, command_of};
-pub use crate::text::next_record;
-use crate::text::{line_of, start_instant, start_line};
+pub use crate::batch::next_record;
+use crate::command::Command;
+use crate::text::{split_at_start, start_instant};
 use executive::executive::Executive;
 use executive::executive::batch::run;
 use model::fault::Fault;
-use model::policy::Policy;
 use model::ranking::Ranking;
-use model::rankings::{DeadlineMonotonic, EarliestDeadline};
 use planning::plan::Plan;
-use runs::call::{Call, Reply};
+use runs::call::{Accepted, Call, Reply};
+use sheet::cutting::Lines;
 use sheet::sheet::Sheet;
+use std::fmt::Display;
 use std::io;
 use std::io::Write;
 
-// Makes one call and prints its reply; says whether it was accepted.
+// Makes one call, prints its reply and hands it on.
 fn make<R: Ranking>(
     rt: &HostRuntime,
     executive: &mut Executive<R>,
     call: Call,
-) -> io::Result<bool> {
+) -> io::Result<Reply> {
     let clock = executive.clock();
-    match executive.take(call) {
-        Reply::Unit(unit) => {
-            let line = unit.line;
-            let began = unit.began as u8;
-            let ended = unit.ended as u8;
-            let struck = unit.struck;
-            println!(rt; "unit {clock} {line} {began} {ended} {struck}")?;
-            Ok(true)
-        }
-        Reply::Done => {
-            println!(rt; "ok")?;
-            Ok(true)
-        }
-        Reply::Refused(fault) => {
-            println!(rt; "{fault}")?;
-            Ok(false)
-        }
+    let reply = executive.take(call);
+    match reply {
+        Ok(Accepted::Step(report)) => println!(rt; "unit {clock} {report}")?,
+        Ok(Accepted::Done) => println!(rt; "ok")?,
+        Err(fault) => println!(rt; "{fault}")?,
     }
+    Ok(reply)
 }
 
 // Steps one by one, and no further than the first refusal.
@@ -55,7 +45,7 @@ fn step_on<R: Ranking>(
     units: u64,
 ) -> io::Result<()> {
     for _ in 0..units {
-        if !make(rt, executive, Call::Step)? {
+        if make(rt, executive, Call::Step)?.is_err() {
             break;
         }
     }
@@ -63,70 +53,52 @@ fn step_on<R: Ranking>(
 }
 
 // Steps silently; says how many jobs were struck out, or the fault of the first refused step. The
-// count saturates so that no proof needs a bound; steps end at clock 10^12, so it never comes to that.
+// count saturates so that no proof needs a bound; steps end at clock 10^12, so it never comes to that. A `try_fold`
+// over the units, of which the closure sees none, is no plainer.
 fn run_on<R: Ranking>(executive: &mut Executive<R>, units: u64) -> Result<u64, Fault> {
     let mut struck: u64 = 0;
     for _ in 0..units {
-        match executive.take(Call::Step) {
-            Reply::Unit(unit) => struck = struck.saturating_add(unit.struck as u64),
-            Reply::Done => {}
-            Reply::Refused(fault) => return Err(fault),
-        }
+        struck = struck.saturating_add(executive.step()?.struck as u64);
     }
     Ok(struck)
 }
 
-fn print_counts<R: Ranking>(rt: &HostRuntime, executive: &Executive<R>) -> io::Result<()> {
-    for line in 1..=executive.line_count() as u64 {
-        if let Ok(counts) = executive.counts(line) {
-            let made = counts.made;
-            let ended = counts.ended;
-            let missed = counts.missed;
-            let aside = counts.aside;
-            let pending = counts.pending;
-            println!(rt; "{line} {made} {ended} {missed} {aside} {pending}")?;
+// The line is the script's own, of no type, so it has no `Display`.
+fn print_run(rt: &HostRuntime, units: u64, struck: Result<u64, Fault>) -> io::Result<()> {
+    match struck {
+        Ok(struck) => println!(rt; "ran {units} {struck}"),
+        Err(fault) => println!(rt; "{fault}"),
+    }
+}
+
+// A printed line for each line of the plan; an executive is asked for a line by its number, from 1 on.
+fn print_lines<T: Display + Drop, F: Fn(u64) -> Result<T, Fault>>(
+    rt: &HostRuntime,
+    lines: usize,
+    told_of: F,
+) -> io::Result<()>
+    requires { F.IsAlwaysCallable told_of }
+{
+    for line in 1..=lines as u64 {
+        if let Ok(told) = told_of(line) {
+            println!(rt; "{line} {told}")?;
         }
     }
     Ok(())
 }
 
-fn print_figures<R: Ranking>(rt: &HostRuntime, executive: &Executive<R>) -> io::Result<()> {
-    for line in 1..=executive.line_count() as u64 {
-        if let Ok(figures) = executive.figures(line) {
-            let number = figures.number;
-            let sum = figures.sum;
-            let largest = figures.largest;
-            let numerator = figures.numerator;
-            let denominator = figures.denominator;
-            println!(rt; "{line} {number} {sum} {largest} {numerator} {denominator}")?;
-        }
-    }
-    Ok(())
-}
-
-fn print_coming<R: Ranking>(rt: &HostRuntime, executive: &Executive<R>) -> io::Result<()> {
-    match executive.coming() {
-        Some(release) => {
-            let instant = release.instant;
-            let line = release.line;
-            println!(rt; "coming {instant} {line}")
-        }
-        None => println!(rt; "coming none"),
+fn print_answer<T: Display + Drop>(
+    rt: &HostRuntime,
+    question: &str,
+    answer: Option<T>,
+) -> io::Result<()> {
+    match answer {
+        Some(answer) => println!(rt; "{question} {answer}"),
+        None => println!(rt; "{question} none"),
     }
 }
 
-fn print_worst<R: Ranking>(rt: &HostRuntime, executive: &Executive<R>) -> io::Result<()> {
-    match executive.worst() {
-        Some(worst) => {
-            let line = worst.line;
-            let largest = worst.largest;
-            println!(rt; "worst {line} {largest}")
-        }
-        None => println!(rt; "worst none"),
-    }
-}
-
-// A line that is no command is shown as it came.
+// A line that is no command is shown as it came, whatever its bytes, so it has no `Display`.
 fn print_unknown(rt: &HostRuntime, line: &[u8]) -> io::Result<()> {
     let mut output = rt.stdout();
     output.write_all(b"? ")?;
@@ -134,58 +106,24 @@ fn print_unknown(rt: &HostRuntime, line: &[u8]) -> io::Result<()> {
     output.write_all(b"\n")
 }
 
+// A `match` and no table of functions: the compiler sees that no command is left out.
 fn answer<R: Ranking>(
     rt: &HostRuntime,
     executive: &mut Executive<R>,
     line: &[u8],
 ) -> io::Result<()> {
-    match command_of(line) {
-        Some(Command::Step(units)) => step_on(rt, executive, units),
-        Some(Command::Run(units)) => match run_on(executive, units) {
-            Ok(struck) => println!(rt; "ran {units} {struck}"),
-            Err(fault) => println!(rt; "{fault}"),
-        },
-        Some(Command::Call(call)) => {
-            make(rt, executive, call)?;
-            Ok(())
-        }
-        Some(Command::Counts) => print_counts(rt, executive),
-        Some(Command::Figures) => print_figures(rt, executive),
-        Some(Command::Coming) => print_coming(rt, executive),
-        Some(Command::Worst) => print_worst(rt, executive),
-        None => print_unknown(rt, line),
+    let Some(command) = Command::parse(line) else {
+        return print_unknown(rt, line);
+    };
+    match command {
+        Command::Step(units) => step_on(rt, executive, units),
+        Command::Run(units) => print_run(rt, units, run_on(executive, units)),
+        Command::Call(call) => make(rt, executive, call).map(|_| ()),
+        Command::Counts => print_lines(rt, executive.line_count(), |line| executive.counts(line)),
+        Command::Figures => print_lines(rt, executive.line_count(), |line| executive.figures(line)),
+        Command::Coming => print_answer(rt, "coming", executive.coming()),
+        Command::Worst => print_answer(rt, "worst", executive.worst()),
     }
-}
-
-// Starts the plan, answers each line of the script, and stops.
-fn run_script<R: Ranking + Drop>(
-    rt: &HostRuntime,
-    plan: Plan,
-    ranking: R,
-    start: u64,
-    script: &[u8],
-) -> io::Result<()> {
-    // A run of no calls yet: `run` is the call whose contract is the promise.
-    let mut executive = run(plan, ranking, start, &[], &mut []);
-    let result = answer_all(rt, &mut executive, script);
-    let (_plan, _ranking) = executive.stop();
-    result
-}
-
-fn answer_all<R: Ranking>(
-    rt: &HostRuntime,
-    executive: &mut Executive<R>,
-    script: &[u8],
-) -> io::Result<()> {
-    let mut rest = script;
-    for _ in 0..script.len() {
-        let Some((line, behind)) = line_of(rest) else {
-            break;
-        };
-        answer(rt, executive, line)?;
-        rest = behind;
-    }
-    Ok(())
 }
 
 fn plan_of(rt: &HostRuntime, text: &[u8]) -> Result<Plan, Fault> {
@@ -196,21 +134,24 @@ fn plan_of(rt: &HostRuntime, text: &[u8]) -> Result<Plan, Fault> {
     Ok(plan)
 }
 
-// Plans the sheet and answers the script behind it.
+// Plans the sheet, starts the plan under the ranking that it names, and answers the script behind it.
 pub fn bench(rt: &HostRuntime, input: &[u8]) -> io::Result<()> {
-    let (text, behind) = input.split_at(start_line(input));
+    let (text, behind) = split_at_start(input);
     let plan = match plan_of(rt, text) {
         Ok(plan) => plan,
         Err(fault) => return println!(rt; "{fault}"),
     };
-    let Some((line, script)) = line_of(behind) else {
+    let mut lines = Lines(behind);
+    let Some(line) = lines.next() else {
         return Ok(());
     };
     let Some(start) = start_instant(line) else {
         return print_unknown(rt, line);
     };
-    match plan.policy() {
-        Policy::Dm => run_script(rt, plan, DeadlineMonotonic, start, script),
-        Policy::Ed => run_script(rt, plan, EarliestDeadline, start, script),
-    }
+    let policy = plan.policy();
+    // A run of no calls yet: `run` is the call whose contract is the promise.
+    let mut executive = run(plan, policy, start, &[], &mut []);
+    let result = lines.try_for_each(|line| answer(rt, &mut executive, line));
+    let (_plan, _policy) = executive.stop();
+    result
 }
