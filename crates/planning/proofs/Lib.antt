@@ -6,6 +6,7 @@ pub mod PairLoops
 pub mod Candidates
 pub mod Search
 pub mod Clear
+pub mod Among
 pub mod Placings
 pub mod Refusals
 pub mod Kept

@@ -3,6 +3,7 @@
 --   FirstNeverApart          a pair is the first that no offsets keep apart
 --   clear_of                 a line is apart from every regular line of a list
 --   try_from, place          backtracking: line by line, smallest offset first, back where a line has none left
+--   put_back                 lines in their places, the regular ones replaced in turn
 --   Placing                  a list of lines with lawful offsets
 --   NotAfter                 one such list comes no later than another, in dictionary order
 --   Least                    the first such list
@@ -46,6 +47,12 @@ place placed (l ∷ ls) =
     cond (is_regular l)
     (try_from l.period 0 (λ o. cond (clear_of placed (at l o)) (place (placed ++ at l o ∷ []) ls) None))
     (place (placed ++ l ∷ []) ls)
+
+-- The lines in their places: the regular ones are those of the second list, in turn, while it lasts.
+abbrev pub put_back : List Line → List Line → List Line
+put_back [] q = []
+put_back (l ∷ ls) [] = l ∷ put_back ls []
+put_back (l ∷ ls) (m ∷ ms) = cond (is_regular l) (m ∷ put_back ls ms) (l ∷ put_back ls (m ∷ ms))
 
 -- q is ls with offsets for its regular lines, each below its line's period, and no two of them meet.
 pub record Placing (ls q : List Line) : Type 0 where

@@ -2,7 +2,9 @@
 
 ghost use Rattle.std.specs.Prelude.{◌≡◌, ℕ, ◌+◌, ◌<◌, ◌≤◌, [], ◌∷◌, ◌++◌, length, if◌then◌else◌, Some, None};
 ghost use Rattle.std.specs.Bool.{OnFalse};
-ghost use Rattle.planning.specs.Offsets.{short_pair, FirstNeverApart, clear_of, place as place_of};
+ghost use Rattle.std.specs.List.{filter};
+ghost use Rattle.model.specs.Ranges.{is_regular, regulars};
+ghost use Rattle.planning.specs.Offsets.{short_pair, FirstNeverApart, clear_of, place as place_of, put_back};
 
 use arrayvec::ArrayVec;
 use model::line::Line;
@@ -44,8 +46,8 @@ fn clear(placed: &[Line], line: &Line) -> bool
 // grows and shrinks along the search: an `Option` of it by value would be a copy for each candidate, and a closure
 // for `any` would hide that it changes.
 #[cycle(place)]
-pub(crate) fn place(placed: &mut ArrayVec<Line, 24>, left: &[Line]) -> bool
-    requires { length placed.old.items + length left.now ≤ 24 }
+fn place<const N: usize>(placed: &mut ArrayVec<Line, N>, left: &[Line]) -> bool
+    requires { length placed.old.items + length left.now ≤ N }
     ensures found { place_of placed.old.items left.now ≡ (if result then Some placed.new.items else None) }
     ensures kept { OnFalse result (placed.new.items ≡ placed.old.items) }
 {
@@ -66,8 +68,8 @@ pub(crate) fn place(placed: &mut ArrayVec<Line, 24>, left: &[Line]) -> bool
 
 // The line is placed as it is, and then those left behind it.
 #[cycle(place)]
-fn place_behind(placed: &mut ArrayVec<Line, 24>, line: Line, left: &[Line]) -> bool
-    requires { length placed.old.items + length left.now < 24 }
+fn place_behind<const N: usize>(placed: &mut ArrayVec<Line, N>, line: Line, left: &[Line]) -> bool
+    requires { length placed.old.items + length left.now < N }
     ensures found { place_of (placed.old.items ++ line ∷ []) left.now ≡ (if result then Some placed.new.items else None) }
     ensures kept { OnFalse result (placed.new.items ≡ placed.old.items) }
 {
@@ -75,6 +77,55 @@ fn place_behind(placed: &mut ArrayVec<Line, 24>, line: Line, left: &[Line]) -> b
     let found = place(placed, left);
     if !found {
         placed.pop();
+    }
+    found
+}
+
+// The regular lines, in sheet order. A loop, as is the next: `collect` into an `ArrayVec` gives a `Result`, though
+// there is always room.
+fn regular_lines(lines: &[Line]) -> ArrayVec<Line, 8>
+    requires { regulars lines.now ≤ 8 }
+    ensures { result.items ≡ filter is_regular lines.now }
+{
+    let mut regular = ArrayVec::new();
+    for line in lines {
+        if line.is_regular() {
+            regular.push(*line);
+        }
+    }
+    regular
+}
+
+// All lines in their places, the regular ones as they were placed.
+fn put_back(lines: &mut ArrayVec<Line, 24>, all: &[Line], placed: &[Line])
+    requires { length lines.old.items + length all.now ≤ 24 }
+    ensures { lines.new.items ≡ lines.old.items ++ put_back all.now placed.now }
+{
+    let mut left = placed;
+    for line in all {
+        match left.split_first() {
+            Some((moved, rest)) if line.is_regular() => {
+                lines.push(*moved);
+                left = rest;
+            }
+            _ => lines.push(*line),
+        }
+    }
+}
+
+// All lines with their offsets. Ordinary lines are in nobody's way, and a search over them too would come by each of
+// them again for every candidate before it: the search goes over the regular lines alone.
+pub(crate) fn place_lines(lines: &mut ArrayVec<Line, 24>, all: &[Line]) -> bool
+    requires empty { lines.old.items ≡ [] }
+    requires few { length all.now ≤ 24 }
+    requires limited { regulars all.now ≤ 8 }
+    ensures found { place_of [] all.now ≡ (if result then Some lines.new.items else None) }
+    ensures kept { OnFalse result (lines.new.items ≡ lines.old.items) }
+{
+    let mut placed = ArrayVec::<Line, 8>::new();
+    let found = place(&mut placed, &regular_lines(all));
+    if found {
+        put_back(lines, all, &placed);
     }
     found
 }

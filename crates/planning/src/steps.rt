@@ -6,7 +6,7 @@ ghost use Rattle.planning.specs.Plans.{plan_of};
 
 use crate::deadlines::{set_deadlines, tight_line};
 use crate::hyperperiod::hyperperiod;
-use crate::offsets::{place, short_pair};
+use crate::offsets::{place_lines, short_pair};
 use arrayvec::ArrayVec;
 use model::fault::Fault;
 use model::line::Line;
@@ -21,7 +21,7 @@ pub(crate) fn planned(sheet: &Sheet) -> Result<ArrayVec<Line, 24>, Fault>
         return Err(Fault::PairTooLong { first, second });
     }
     let mut lines = ArrayVec::new();
-    if !place(&mut lines, sheet.lines()) {
+    if !place_lines(&mut lines, sheet.lines()) {
         return Err(Fault::NoOffsets);
     }
     set_deadlines(&mut lines, sheet.policy());

@@ -5,7 +5,7 @@ use Rattle.planning.proofs.offsets.+place.Goals as goal
 use Rattle.planning.proofs.offsets.+place.Goals.{place-else-clear-via-then-clear+else-place_behind, place-else-clear-via-else-clear}
 
 pub place-loop-offset-preserved : goal.place-loop-offset-preserved
-place-loop-offset-preserved t c =
+place-loop-offset-preserved t g c =
     let placed = c.args.placed.now.items in
     let l = c.in-Some.line.now in
     let rest = c.in-Some.rest.now in
