@@ -1,5 +1,6 @@
 pub mod Complete
 pub mod Cuts
+pub mod Digits
 pub mod Joins
 pub mod LinesRead
 pub mod Numbers

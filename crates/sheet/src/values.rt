@@ -1,10 +1,10 @@
 //! What the bytes of one field say. These are functions and no `TryFrom`: the types stand in `model`, which
 //! reads no text.
 
-ghost use Rattle.std.specs.Prelude.{◌≡◌};
+ghost use Rattle.std.specs.Prelude.{◌≡◌, ◌≤◌, true, length};
 ghost use Rattle.std.specs.Char.{is_ascii_digit};
 ghost use Rattle.std.specs.List.{list_all};
-ghost use Rattle.sheet.specs.Reading.{policy_of, kind_of, all_name_bytes, is_name, is_number, number_of};
+ghost use Rattle.sheet.specs.Reading.{policy_of, kind_of, all_name_bytes, is_name, is_number, value_from, number_of};
 
 use model::kind::Kind;
 use model::policy::Policy;
@@ -60,13 +60,20 @@ fn is_number(part: &[u8]) -> bool
     }
 }
 
-// Up to seven digits are text that parses.
-#[tactic(auto, using(crate::proofs::Numbers::number_text, crate::proofs::Numbers::number_parsed))]
+// Seven digits fit with room to spare.
+fn value_of(digits: &[u8]) -> u32
+    requires { (length digits.now ≤ 7) × (list_all is_ascii_digit digits.now ≡ true) }
+    ensures { result ≡ value_from 0 digits.now }
+{
+    let mut n: u32 = 0;
+    for b in digits {
+        n = 10 * n + (*b - b'0') as u32;
+    }
+    n
+}
+
 pub(crate) fn number_of(part: &[u8]) -> Option<u32>
     ensures { result ≡ number_of part.now }
 {
-    if !is_number(part) {
-        return None;
-    }
-    str::from_utf8(part).ok()?.parse().ok()
+    is_number(part).then(|| value_of(part))
 }
