@@ -9,6 +9,7 @@ ghost use Rattle.sheet.specs.Grammar.{Admitted, Says};
 ghost use Rattle.sheet.specs.Reading.{read_sheet};
 
 use crate::text::read_text;
+use arrayvec::ArrayVec;
 use model::fault::Fault;
 use model::line::Line;
 use model::policy::Policy;
@@ -51,7 +52,8 @@ impl Sheet {
         ensures grammar { Decides (is_ok result) (Admitted text.now) }
         ensures says { Says text.now self.new.tasks }
     {
-        let (policy, lines) = read_text(text)?;
+        let mut lines = ArrayVec::new();
+        let policy = read_text(text, &mut lines)?;
         self.tasks.fill(policy, &lines);
         Ok(())
     }

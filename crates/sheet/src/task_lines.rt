@@ -1,6 +1,6 @@
 //! Task lines: one line field by field, then line after line.
 
-ghost use Rattle.std.specs.Prelude.{◌≡◌, ℕ, List, [], ◌∷◌, Ok, Err, MatchResult};
+ghost use Rattle.std.specs.Prelude.{◌≡◌, ℕ, List, ◌∷◌, Ok, Err, MatchResult};
 ghost use Rattle.model.specs.Ranges.{regulars};
 ghost use Rattle.sheet.specs.Cutting.{lines_of};
 ghost use Rattle.sheet.specs.FieldReader.{left};
@@ -63,13 +63,12 @@ fn read_next(text: &[u8], lines: &mut ArrayVec<Line, 24>) -> Result<(), Fault>
     Ok(())
 }
 
-// The task lines that are left of a text.
-pub(crate) fn read_tasks(texts: Lines) -> Result<ArrayVec<Line, 24>, Fault>
-    ensures { MatchResult result (λ ls. read_tasks [] (lines_of texts.entry.0.now) ≡ Ok ls.items) (λ e. read_tasks [] (lines_of texts.entry.0.now) ≡ Err e) }
+// The task lines that are left of a text, behind those in `lines`.
+pub(crate) fn read_tasks(texts: Lines, lines: &mut ArrayVec<Line, 24>) -> Result<(), Fault>
+    ensures { MatchResult result (λ _. read_tasks lines.old.items (lines_of texts.entry.0.now) ≡ Ok lines.new.items) (λ e. read_tasks lines.old.items (lines_of texts.entry.0.now) ≡ Err e) }
 {
-    let mut lines = ArrayVec::new();
     for text in texts {
-        read_next(text, &mut lines)?;
+        read_next(text, lines)?;
     }
-    Ok(lines)
+    Ok(())
 }

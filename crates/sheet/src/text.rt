@@ -1,6 +1,6 @@
 //! A whole text: its length and its end, line 0, and the task lines.
 
-ghost use Rattle.std.specs.Prelude.{◌≡◌, Ok, Err, MatchResult};
+ghost use Rattle.std.specs.Prelude.{◌≡◌, [], Ok, Err, MatchResult};
 ghost use Rattle.model.specs.TaskSets.{task_set};
 ghost use Rattle.sheet.specs.Cutting.{lines_of};
 ghost use Rattle.sheet.specs.Reading.{read_lines, read_sheet};
@@ -13,18 +13,23 @@ use model::fault::Fault;
 use model::line::Line;
 use model::policy::Policy;
 
-// The policy of line 0, and the task lines.
-fn read_lines(text: &[u8]) -> Result<(Policy, ArrayVec<Line, 24>), Fault>
-    ensures { MatchResult result (λ s. read_lines (lines_of text.now) ≡ Ok (task_set s.0 s.1.items)) (λ e. read_lines (lines_of text.now) ≡ Err e) }
+// The policy of line 0, and the task lines into a place that is empty: handed up by value they would be copied
+// at each return.
+fn read_lines(text: &[u8], lines: &mut ArrayVec<Line, 24>) -> Result<Policy, Fault>
+    requires { lines.old.items ≡ [] }
+    ensures { MatchResult result (λ p. read_lines (lines_of text.now) ≡ Ok (task_set p lines.new.items)) (λ e. read_lines (lines_of text.now) ≡ Err e) }
 {
     let malformed = Fault::Malformed { line: 0, field: 1 };
-    let mut lines = Lines(text);
-    let policy = lines.next().and_then(policy_of).ok_or(malformed)?;
-    Ok((policy, read_tasks(lines)?))
+    let mut texts = Lines(text);
+    let policy = texts.next().and_then(policy_of).ok_or(malformed)?;
+    read_tasks(texts, lines)?;
+    Ok(policy)
 }
 
-pub(crate) fn read_text(text: &[u8]) -> Result<(Policy, ArrayVec<Line, 24>), Fault>
-    ensures { MatchResult result (λ s. read_sheet text.now ≡ Ok (task_set s.0 s.1.items)) (λ e. read_sheet text.now ≡ Err e) }
+// A refusal may leave anything in `lines`.
+pub(crate) fn read_text(text: &[u8], lines: &mut ArrayVec<Line, 24>) -> Result<Policy, Fault>
+    requires { lines.old.items ≡ [] }
+    ensures { MatchResult result (λ p. read_sheet text.now ≡ Ok (task_set p lines.new.items)) (λ e. read_sheet text.now ≡ Err e) }
 {
     if text.len() > 4096 {
         return Err(Fault::TextTooLong);
@@ -32,5 +37,5 @@ pub(crate) fn read_text(text: &[u8]) -> Result<(Policy, ArrayVec<Line, 24>), Fau
     if !text.ends_with(b"\n") {
         return Err(Fault::TextNotEnded);
     }
-    read_lines(text)
+    read_lines(text, lines)
 }
