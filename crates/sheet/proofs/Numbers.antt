@@ -1,12 +1,9 @@
 -- A number is read back from what `decimal` writes of it, and nothing else is read as that number.
-use Rattle.std.proofs.Common.{◌≡◌, ℕ, ◌^◌, ◌<◌, ◌≤◌, true, false, List, length, get_or, refl, Some, Ok, Result, decimal, sym, ap, ◌∙◌, ⊎_elim, arith, rules}
+use Rattle.std.proofs.Common.{◌≡◌, ℕ, ◌^◌, ◌<◌, ◌≤◌, true, false, List, length, get_or, refl, Some, decimal, sym, ap, ◌∙◌, ⊎_elim, arith, rules}
 use Rattle.std.specs.Char.{is_ascii_digit}
 use Rattle.std.specs.List.{list_all}
-use Rattle.std.specs.Str.{IsUtf8}
-use Rattle.std.specs.Str.Parse.{ParsesUnsigned}
-use Rattle.std.proofs.lemmas.Str.{IsUtf8-from_ascii}
-use Rattle.std.proofs.lemmas.Fmt.{IsAscii-from_digits, digits_decimal, digits_value-decimal, decimal_nonempty, length-decimal-le, first_decimal, decimal-digits_value, decimal_digit}
-use Rattle.std.proofs.lemmas.Str.Parse.{IsNumeralModel, numerals_by_fold, digits_value_short, parse_gives}
+use Rattle.std.proofs.lemmas.Fmt.{digits_decimal, digits_value-decimal, decimal_nonempty, length-decimal-le, first_decimal, decimal-digits_value, decimal_digit}
+use Rattle.std.proofs.lemmas.Str.Parse.{IsNumeralModel, numerals_by_fold, digits_value_short}
 use Rattle.std.proofs.lemmas.Bool.{cases_eq}
 use Rattle.std.proofs.lemmas.Bool.Decides.{nat_tests}
 use Rattle.sheet.specs.Reading.{is_number, leading_zero, value_from, number_of}
@@ -40,12 +37,6 @@ record Form (bs : List ℕ) : Type 0 where
 
 form_of : (bs : List ℕ) → is_number bs ≡ true → Form bs
 form_of bs e = record { some = grind (arith, nat_tests); short = grind (arith, nat_tests); lead = grind (arith, nat_tests); digits = grind (arith, nat_tests) }
-
-pub number_text : (bs : List ℕ) → is_number bs ≡ true → IsUtf8 bs
-number_text bs e = IsUtf8-from_ascii bs (IsAscii-from_digits bs (own.to bs (form_of bs e).digits))
-
-pub number_parsed : {E : Type 0} (bs : List ℕ) (r : Result ℕ E) → is_number bs ≡ true → ParsesUnsigned 32 10 bs r → r ≡ Ok (value_from 0 bs)
-number_parsed bs r e h = let f = form_of bs e in parse_gives own 32 bs r h f.digits (omega arith) (omega (arith, digits_value_short own bs 7 f.digits f.short))
 
 alone : (bs : List ℕ) → get_or bs 0 0 ≡ 48 → leading_zero bs ≡ false → 1 ≤ length bs → length bs ≡ 1
 alone bs z lead some = grind (arith, nat_tests)
