@@ -3,9 +3,9 @@
 
 ghost use Rattle.std.specs.Prelude.{◌≡◌, ◌+◌, ◌-◌, ◌^◌, ◌<◌, ◌≤◌, true, length, map, Some, count_by, slice_index_or};
 ghost use Rattle.std.specs.List.{filter, reduce};
-ghost use Rattle.std.specs.Option.{option_map, option_copied, option_or};
+ghost use Rattle.std.specs.Option.{option_map, option_copied, option_or, unwrap_or};
 ghost use Rattle.runs.specs.Calls.{on_line};
-ghost use Rattle.runs.specs.Tasks.{due, given, pending, served};
+ghost use Rattle.runs.specs.Tasks.{due, given, job_of, pending, served};
 ghost use Rattle.runs.specs.Steps.{first_of, arrived_all, line_of, lowest_due, number_of, report_of, stepped as stepped_all, unit_for, ToFirst};
 ghost use Rattle.executive.specs.Slots.{tasks_of, tracks_of, blank_slot, arrived_slot, first_of_two, AllKept};
 
@@ -56,20 +56,28 @@ fn arrive_each(slots: &mut [Slot], t: u64) -> Struck
     struck
 }
 
-// The slot whose pending job goes first.
+// Whether the pending job of `slot` goes ahead of that of the best so far, if there is one.
+fn leads<R: Ranking>(slot: &Slot, best: Option<&Slot>, ranking: &R) -> bool
+    ensures { result ≡ unwrap_or (option_map (λ x. R.ahead ranking.now (job_of slot.now.task) (job_of x.now.task)) best.entry) true }
+{
+    match best {
+        Some(best) => ranking.goes_ahead(&Job::from(slot), &Job::from(best)),
+        None => true,
+    }
+}
+
+// The slot whose pending job goes first. A `for`, since `filter` looks for each next pending job in a loop of its own,
+// which is slower.
 fn first<'a, R: Ranking>(slots: &'a [Slot], ranking: &R) -> Option<&'a Slot>
     ensures { option_copied result ≡ reduce (first_of_two (R.ahead ranking.now)) (filter (λ x. pending x.task) slots.now) }
 {
-    slots
-        .iter()
-        .filter(|slot| is_pending(&slot.task))
-        .reduce(|best, slot| {
-            if ranking.goes_ahead(&Job::from(slot), &Job::from(best)) {
-                slot
-            } else {
-                best
-            }
-        })
+    let mut best = None;
+    for slot in slots {
+        if is_pending(&slot.task) && leads(slot, best, ranking) {
+            best = Some(slot);
+        }
+    }
+    best
 }
 
 // The unit goes to a pending job.

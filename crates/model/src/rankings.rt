@@ -1,14 +1,13 @@
 //! The two rankings that a sheet can name, and the policy as the ranking that it names.
 
-ghost use Rattle.std.specs.Prelude.{◌≡◌, ℕ, ◌+◌};
-ghost use Rattle.model.specs.declared.job.Job.{Job};
-ghost use Rattle.model.specs.Rankings.{regular_first, smaller, dm_ahead, ed_ahead, ahead_of, DmRule, EdRule};
+ghost use Rattle.std.specs.Prelude.{◌≡◌, ◌+◌, true, false, cond, nat_lt};
+ghost use Rattle.model.specs.Rankings.{regular_first, dm_ahead, ed_ahead, ahead_of, DmRule, EdRule};
 ghost use Rattle.model.specs.Laws.{dm_lawful, ed_lawful, policy_lawful};
 
 use crate::job::Job;
+use crate::kind::Kind;
 use crate::policy::Policy;
 use crate::ranking::Ranking;
-use std::cmp::Reverse;
 
 // Regular jobs first, then the smaller deadline, then the lower line.
 #[derive(Clone, Copy)]
@@ -21,9 +20,16 @@ pub struct EarliestDeadline;
 // Regular jobs first, then the smaller key, then the lower line; none goes ahead of one of its own line. The keys are
 // handed in as numbers: a closure for them would ask for a clause on what it gives.
 fn by_key(a: &Job, key_a: u128, b: &Job, key_b: u128) -> bool
-    ensures { (key : Job → ℕ) → key a.now ≡ key_a → key b.now ≡ key_b → result ≡ regular_first (smaller key) a.now b.now }
+    ensures { result ≡ regular_first (λ x y. cond (nat_lt key_a key_b) true (cond (nat_lt key_b key_a) false (nat_lt x.line y.line))) a.now b.now }
 {
-    a.line != b.line && (Reverse(a.kind), key_a, a.line) < (Reverse(b.kind), key_b, b.line)
+    if a.line == b.line {
+        return false;
+    }
+    match (a.kind, b.kind) {
+        (Kind::Regular, Kind::Ordinary) => true,
+        (Kind::Ordinary, Kind::Regular) => false,
+        _ => key_a < key_b || key_a == key_b && a.line < b.line,
+    }
 }
 
 // A sum of any release and deadline fits 128 bits.
