@@ -15,6 +15,9 @@ by_steps (suc steps) a b h =
 pub gcd_is : (a b : ℕ) → IsGcd a b (gcd_of a b)
 gcd_is a b = by_steps (b + 1) a b (omega arith)
 
+pub one_gcd : {a b : ℕ} (g h : ℕ) → IsGcd a b g → IsGcd a b h → g ≡ h
+one_gcd {a} {b} g h p q = same_from_IsGcd a b g h p q
+
 -- no other number is
 pub is_gcd_of : (a b g : ℕ) → IsGcd a b g → g ≡ gcd_of a b
 is_gcd_of a b g h = same_from_IsGcd a b g (gcd_of a b) h (gcd_is a b)

@@ -1,7 +1,8 @@
 -- The product divided by the greatest common divisor is the least common multiple.
-use Rattle.std.proofs.Common.{◌≡◌, ℕ, ◌+◌, ◌*◌, ◌/◌, ◌<◌, ◌≤◌, sym, ap, ◌∙◌, subst, subst₂, ⊎_elim, mul_assoc, mul_comm, mul-pos, mul-add, mul_right_comm, arith}
+use Rattle.std.proofs.Common.{◌≡◌, ℕ, ◌+◌, ◌*◌, ◌/◌, ◌<◌, ◌≤◌, sym, ap, ◌∙◌, subst, subst₂, ⊎_elim, mul_assoc, mul_comm, mul-pos, mul-add, div-le_self, mul_right_comm, arith}
 use Prim.Native.Nat.{◌∣◌}
-use native.Mathlib.Nat.{mul-div_cancel', div-mul_cancel, dvd-mul_left, dvd-mul_right, dvd-mul_left_of_dvd, dvd-add_iff_right, mul-dvd-mul_left, dvd_of_mul-dvd-mul_right, pos_of_dvd_of_pos}
+use native.Mathlib.Nat.{mul-div_cancel', div-mul_cancel, dvd-mul_left, dvd-mul_right, dvd-mul_left_of_dvd, dvd-add_iff_right, mul-dvd-mul_left, dvd_of_mul-dvd-mul_right, dvd_antisymm, le_of_dvd, pos_of_dvd_of_pos}
+use Rattle.std.proofs.lemmas.Nat.{mul-le}
 use Rattle.std.proofs.lemmas.Bool.{cases_lt}
 use Rattle.windows.specs.Euclid.{gcd_of, lcm_of, IsLcm}
 use Rattle.windows.proofs.Gcd.{gcd_is, gcd_positive_left}
@@ -57,6 +58,16 @@ module _ (a b : ℕ) where
 
   pub lcm_positive : 0 < a → 0 < b → 0 < lcm_of a b
   lcm_positive pa pb = pos_of_dvd_of_pos (lcm_is.least (a * b) (dvd-mul_right a b) (dvd-mul_left b a)) (mul-pos pa pb)
+
+  pub lcm_from_left : 0 < a → 0 < b → a ≤ lcm_of a b
+  lcm_from_left pa pb = le_of_dvd (lcm_positive pa pb) lcm_is.left
+
+  pub lcm_below : (m n : ℕ) → a ≤ m → b ≤ n → lcm_of a b ≤ m * n
+  unfolding g
+  lcm_below m n ha hb = mul-le (a / g) b m n (omega (arith, div-le_self a g)) hb
+
+pub one_lcm : {a b : ℕ} (m n : ℕ) → IsLcm a b m → IsLcm a b n → m ≡ n
+one_lcm m n p q = dvd_antisymm (p.least n q.left q.right) (q.least m p.left p.right)
 
 pub is_lcm : (a b m : ℕ) → m ≡ lcm_of a b → IsLcm a b m
 is_lcm a b m e = rw e (lcm_is a b)

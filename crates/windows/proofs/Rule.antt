@@ -2,7 +2,7 @@
 use Rattle.std.proofs.Common.{◌≡◌, ℕ, ◌+◌, ◌-◌, ◌*◌, ◌/◌, ◌%◌, ◌<◌, ◌≤◌, Bool, Decides, sym, ap, ◌∙◌, subst, mod-lt, mod-eq_of_lt, add-mul, mul-add, mul_right_comm, arith}
 use Rattle.std.proofs.Math.Nat.{mul_left_comm}
 use native.Mathlib.Nat.{mul-div_cancel', div-add-mod, add-mul-mod_self_left}
-use Rattle.std.proofs.lemmas.Bool.Decides.{nat_tests}
+use Rattle.std.proofs.lemmas.Bool.Decides.{nat_tests, same_from_decides, Decides-like}
 use Rattle.model.specs.declared.line.Line.{Line}
 use Rattle.windows.specs.Euclid.{gcd_of}
 use Rattle.windows.specs.Windows.{Meet, Periodic, gap_of, apart_lines}
@@ -98,3 +98,8 @@ apart_told a b r e pa pb = rw e (apart_means a b pa pb)
 
 pub meet_sym : (a b : Line) → Meet a b → Meet b a
 meet_sym a b h = (h.0, h.2, h.1, h.4, h.3)
+
+pub apart_sym : (a b : Line) → Periodic a → Periodic b → apart_lines a b ≡ apart_lines b a
+apart_sym a b pa pb =
+    same_from_decides (apart_lines a b) (apart_lines b a) (apart_means a b pa pb)
+    (Decides-like (apart_lines b a) (λ none h. none (meet_sym a b h)) (λ none h. none (meet_sym b a h)) (apart_means b a pb pa))
