@@ -15,9 +15,16 @@ pub(crate) enum Command {
     Worst,
 }
 
+// `resume`, a space and 20 digits.
+const LONGEST: usize = 27;
+
 impl Command {
-    // A command is a word, or a word, one space and a number; any other line is none.
+    // A command is a word, or a word, one space and a number; any other line is none. A line that is too long for any is
+    // not looked through.
     pub(crate) fn parse(line: &[u8]) -> Option<Command> {
+        if line.len() > LONGEST {
+            return None;
+        }
         match split_once(line, b' ') {
             None => Command::of_word(line),
             Some((word, digits)) => Command::of_number(word, number(digits)?),
