@@ -7,7 +7,7 @@ pub mod executive;
 mod printed;
 pub mod questions;
 pub mod rehearsal;
-mod slot;
+pub mod slot;
 mod slots;
 mod step;
 mod task;

@@ -17,10 +17,10 @@ use runs::task::Task;
 
 // `next` is the line's first release at or after the next step.
 #[derive(Clone, Copy, Default)]
-pub(crate) struct Slot {
-    pub(crate) task: Task,
-    pub(crate) next: u64,
-    pub(crate) track: Track,
+pub struct Slot {
+    pub task: Task,
+    pub next: u64,
+    pub track: Track,
 }
 
 // The first release at or after `t`.
