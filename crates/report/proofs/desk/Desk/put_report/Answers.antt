@@ -37,7 +37,12 @@ returns-in-Err c =
     let told = told_of_fault c.args.text.now _ e in
     let w = c.fault_line.ensures in
     record {
-      wrote = subst (Wrote c.args.page.now c.fault_line.new.page) told w.wrote;
+      wrote = record {
+        stored = grind (arith, w.wrote.stored, told);
+        moved = grind (arith, w.wrote.moved, told);
+        long = grind (arith, w.wrote.long);
+        same = grind (arith, w.wrote.same);
+      };
       short = subst (λ t. length t ≤ buffer_least) told (omega (arith, w.short));
       sheet = c.prepare.ensures.sheet;
       plan = filled_kept c.prepare.result _ _ _ c.prepare.ensures.plan;
