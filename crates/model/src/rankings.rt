@@ -28,7 +28,8 @@ fn by_key(a: &Job, key_a: u128, b: &Job, key_b: u128) -> bool
     match (a.kind, b.kind) {
         (Kind::Regular, Kind::Ordinary) => true,
         (Kind::Ordinary, Kind::Regular) => false,
-        _ => key_a < key_b || key_a == key_b && a.line < b.line,
+        _ if a.line < b.line => key_a <= key_b,
+        _ => key_a < key_b,
     }
 }
 
