@@ -4,11 +4,11 @@
 ghost use Rattle.std.specs.Prelude.{◌≡◌, ◌+◌, ◌^◌, ◌<◌, ◌≤◌};
 ghost use Rattle.model.specs.Ranges.{Ranged};
 ghost use Rattle.runs.specs.Jitter.{no_track};
-ghost use Rattle.runs.specs.Tasks.{admitted, due, job_of, new_task};
+ghost use Rattle.runs.specs.Tasks.{admitted, job_of, new_task};
 ghost use Rattle.executive.specs.Changes.{counts_of};
-ghost use Rattle.executive.specs.Slots.{coming_at, IsComing, Kept, arrived_slot};
+ghost use Rattle.executive.specs.Slots.{coming_at, IsComing, Kept};
 
-use crate::task::{admit, is_pending, new_task, strike};
+use crate::task::{admit, is_pending, new_task};
 use model::job::Job;
 use model::line::Line;
 use runs::call::CountsReport;
@@ -54,7 +54,7 @@ impl Slot {
     }
 
     // Meets the release at `t`, if the line has one: a line that is not at rest gets its job.
-    fn release_at(&mut self, t: u64)
+    pub(crate) fn release_at(&mut self, t: u64)
         requires { (Ranged self.old.task.line) × ((self.old.next ≡ coming_at self.old.task.line t) × ((self.old.task.counts.made ≤ t) × (t < 10 ^ 12))) }
         ensures { self.new ≡ record self.old { task = admitted t self.old.task; next = coming_at self.old.task.line (t + 1) } }
     {
@@ -65,18 +65,6 @@ impl Slot {
         if !self.task.resting {
             admit(&mut self.task, t);
         }
-    }
-
-    // What comes due is struck out before the release of the same instant is met; says whether a job
-    // was struck out.
-    pub(crate) fn arrive(&mut self, t: u64) -> bool
-        requires { (Kept t self.old) × (t < 10 ^ 12) }
-        ensures value { result ≡ due t self.old.task }
-        ensures after { self.new ≡ arrived_slot t self.old }
-    {
-        let struck = strike(&mut self.task, t);
-        self.release_at(t);
-        struck
     }
 }
 

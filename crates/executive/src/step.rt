@@ -1,17 +1,17 @@
 //! One unit of time: what is due is struck out, what is released arrives, and the pending job that
 //! the ranking puts first gets the unit.
 
-ghost use Rattle.std.specs.Prelude.{◌≡◌, ◌+◌, ◌-◌, ◌^◌, ◌<◌, ◌≤◌, true, length, map, Some, count_by, slice_index_or};
+ghost use Rattle.std.specs.Prelude.{◌≡◌, ◌+◌, ◌-◌, ◌^◌, ◌<◌, ◌≤◌, true, length, map, Some, count_by, position, slice_index_or};
 ghost use Rattle.std.specs.List.{filter, reduce};
-ghost use Rattle.std.specs.Option.{option_map, option_copied, option_or, unwrap_or};
+ghost use Rattle.std.specs.Option.{option_map, option_copied, option_or};
 ghost use Rattle.runs.specs.Calls.{on_line};
-ghost use Rattle.runs.specs.Tasks.{due, given, job_of, pending, served};
+ghost use Rattle.runs.specs.Tasks.{due, given, pending, served};
 ghost use Rattle.runs.specs.Steps.{first_of, arrived_all, line_of, lowest_due, number_of, report_of, stepped as stepped_all, unit_for, ToFirst};
 ghost use Rattle.executive.specs.Slots.{tasks_of, tracks_of, blank_slot, arrived_slot, first_of_two, AllKept};
 
 use crate::slot::Slot;
 use crate::slots::Slots;
-use crate::task::{give, is_pending};
+use crate::task::{give, is_pending, strike};
 use model::job::Job;
 use model::ranking::Ranking;
 use runs::call::{StepReport, UnitReport};
@@ -41,6 +41,7 @@ impl Struck {
     }
 }
 
+// In each slot what comes due is struck out before the release of the same instant is met.
 fn arrive_each(slots: &mut [Slot], t: u64) -> Struck
     requires { (AllKept t slots.old) × ((length slots.old ≤ 24) × (t < 10 ^ 12)) }
     ensures slots { slots.new ≡ map (arrived_slot t) slots.old }
@@ -49,35 +50,33 @@ fn arrive_each(slots: &mut [Slot], t: u64) -> Struck
 {
     let mut struck = Struck::default();
     for slot in slots.iter_mut() {
-        if slot.arrive(t) {
+        if strike(&mut slot.task, t) {
             struck.add(slot.task.number);
         }
+        slot.release_at(t);
     }
     struck
 }
 
-// Whether the pending job of `slot` goes ahead of that of the best so far, if there is one.
-fn leads<R: Ranking>(slot: &Slot, best: Option<&Slot>, ranking: &R) -> bool
-    ensures { result ≡ unwrap_or (option_map (λ x. R.ahead ranking.now (job_of slot.now.task) (job_of x.now.task)) best.entry) true }
+fn first_pending(slots: &[Slot]) -> Option<usize>
+    ensures { result ≡ position (λ x. pending x.task) slots.now }
 {
-    match best {
-        Some(best) => ranking.goes_ahead(&Job::from(slot), &Job::from(best)),
-        None => true,
-    }
+    slots.iter().position(|slot| is_pending(&slot.task))
 }
 
-// The slot whose pending job goes first. A `for`, since `filter` looks for each next pending job in a loop of its own,
-// which is slower.
+// The slot whose pending job goes first. A `for` over those behind the first pending one: `filter` with `reduce` is slower.
+#[tactic(auto, using(crate::proofs::Chosen::none_seen, crate::proofs::Chosen::seen_from))]
 fn first<'a, R: Ranking>(slots: &'a [Slot], ranking: &R) -> Option<&'a Slot>
     ensures { option_copied result ≡ reduce (first_of_two (R.ahead ranking.now)) (filter (λ x. pending x.task) slots.now) }
 {
-    let mut best = None;
-    for slot in slots {
-        if is_pending(&slot.task) && leads(slot, best, ranking) {
-            best = Some(slot);
+    let start = first_pending(slots)?;
+    let mut best = &slots[start];
+    for slot in &slots[start + 1..] {
+        if is_pending(&slot.task) && ranking.goes_ahead(&Job::from(slot), &Job::from(best)) {
+            best = slot;
         }
     }
-    best
+    Some(best)
 }
 
 // The unit goes to a pending job.

@@ -22,15 +22,14 @@ pub struct EarliestDeadline;
 fn by_key(a: &Job, key_a: u128, b: &Job, key_b: u128) -> bool
     ensures { result ≡ regular_first (λ x y. cond (nat_lt key_a key_b) true (cond (nat_lt key_b key_a) false (nat_lt x.line y.line))) a.now b.now }
 {
-    if a.line == b.line {
-        return false;
-    }
-    match (a.kind, b.kind) {
-        (Kind::Regular, Kind::Ordinary) => true,
-        (Kind::Ordinary, Kind::Regular) => false,
-        _ if a.line < b.line => key_a <= key_b,
-        _ => key_a < key_b,
-    }
+    let ahead = if a.kind != b.kind {
+        a.kind == Kind::Regular
+    } else if key_a != key_b {
+        key_a < key_b
+    } else {
+        a.line < b.line
+    };
+    ahead && a.line != b.line
 }
 
 // A sum of any release and deadline fits 128 bits.
