@@ -64,7 +64,8 @@ fn first_pending(slots: &[Slot]) -> Option<usize>
     slots.iter().position(|slot| is_pending(&slot.task))
 }
 
-// The slot whose pending job goes first. A `for` over those behind the first pending one: `filter` with `reduce` is slower.
+// The slot whose pending job goes first. A `for` over those behind the first pending one: `filter` with `reduce` is
+// slower.
 #[tactic(auto, using(crate::proofs::Chosen::none_seen, crate::proofs::Chosen::seen_from))]
 fn first<'a, R: Ranking>(slots: &'a [Slot], ranking: &R) -> Option<&'a Slot>
     ensures { option_copied result ≡ reduce (first_of_two (R.ahead ranking.now)) (filter (λ x. pending x.task) slots.now) }
